@@ -44,29 +44,29 @@ module _ (s : List ℕ) (at : ℕ) where
 
   module _ (n : ℕ) (p : Has n s at) where
     pub has-some : at < length s
-    has-some = in-range (p .0) (p .1) (p .2)
+    has-some = in-range (p .1 .it) (p .0) (p .1 .stands)
     pub has-known : 4 ≤ getD s at 0 → ⊥
-    has-known g = unknownE _ _ _ (p .0) g (shape _ refl (p .0) (p .1) (p .2))
+    has-known g = unknownE _ _ _ (p .1 .it) g (shape _ refl (p .1 .it) (p .0) (p .1 .stands))
     pub has-var : getD s at 0 ≡ 1 → (at + 1 < length s) × (getD s (at + 1) 0 < n)
     has-var g =
-        let l = shape 1 g (p .0) (p .1) (p .2) in
+        let l = shape 1 g (p .1 .it) (p .0) (p .1 .stands) in
         let f = byte-at s (at + 1) (l .0) _ (l .2) in
-        (f .0, omega (arith, f .1, subst (OkE n) (l .1) (p .3)))
+        (f .0, omega (arith, f .1, subst (OkE n) (l .1) (p .1 .fine)))
     pub has-not : getD s at 0 ≡ 2 → Has n s (at + 1)
     has-not g =
-        let l = shape 2 g (p .0) (p .1) (p .2) in
-        (l .0, p .1, stands-right s (2 ∷ []) _ (subst (λ e. Stands s at (p .1) (rowE e)) (l .1) (p .2)), subst (OkE n) (l .1) (p .3))
-    halves : getD s at 0 ≡ 3 → (f : E) × (g : E) × Parts n f g (p .1)
+        let l = shape 2 g (p .1 .it) (p .0) (p .1 .stands) in
+        (p .0, record { it = l .0; stands = stands-right s (2 ∷ []) _ (subst (λ e. Stands s at (p .0) (rowE e)) (l .1) (p .1 .stands)); fine = subst (OkE n) (l .1) (p .1 .fine) })
+    halves : getD s at 0 ≡ 3 → (f : E) × (g : E) × Parts n f g (p .0)
     halves g =
-        let l = shape 3 g (p .0) (p .1) (p .2) in
-        (l .0, l .1, parts n (l .0) (l .1) (p .1) (subst (λ e. Stands s at (p .1) (rowE e)) (l .2) (p .2)) (subst (OkE n) (l .2) (p .3)))
+        let l = shape 3 g (p .1 .it) (p .0) (p .1 .stands) in
+        (l .0, l .1, parts n (l .0) (l .1) (p .0) (subst (λ e. Stands s at (p .0) (rowE e)) (l .2) (p .1 .stands)) (subst (OkE n) (l .2) (p .1 .fine)))
     pub has-left : getD s at 0 ≡ 3 → Has n s (at + 1)
-    has-left g = let h = halves g in (h .0, h .2 .mid, h .2 .left, h .2 .left-ok)
+    has-left g = let h = halves g in (h .2 .mid, record { it = h .0; stands = h .2 .left; fine = h .2 .left-ok })
     pub has-right : (v : ℕ) (r : Valued) → getD s at 0 ≡ 3 → Evals s (at + 1) v r → (at < r .end) × Has n s (r .end)
     has-right v r g k =
         let h = halves g in
         let e = k n (h .0) (h .2 .mid) (h .2 .left) (h .2 .left-ok) .1 in
-        (omega (arith, e, h .2 .left .long), (h .1, p .1, subst (λ m. Stands s m (p .1) (rowE (h .1))) (sym e) (h .2 .right), h .2 .right-ok))
+        (omega (arith, e, h .2 .left .long), (p .0, record { it = h .1; stands = subst (λ m. Stands s m (p .0) (rowE (h .1))) (sym e) (h .2 .right); fine = h .2 .right-ok }))
 
   module _ (v : ℕ) where
     -- what `Evals` says of one expression

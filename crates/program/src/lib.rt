@@ -7,3 +7,6 @@ pub mod procedures;
 pub mod programs;
 pub mod refusals;
 pub mod steps;
+
+#[cfg(test)]
+mod tests;
