@@ -1,16 +1,16 @@
 -- Evaluating an expression where it stands: it stands in one way only, and each case of its value is
 -- that of the parts which stand behind its first byte.
 use mathlib.Core.Path.{_≡_, refl, sym, ap, subst, _∙_}
-use mathlib.Core.Bool.{Bool, true, false, not, _&&_}
+use mathlib.Core.Bool.{true, not, _&&_}
 use mathlib.Core.List.{List, [], _∷_, _++_}
-use mathlib.Core.Option.{Option, some, none}
-use Prim.Native.Nat.{ℕ, zero, suc, _+_, _*_, _/_, _%_, _^_, _≤_, _<_}
+use mathlib.Core.Option.{some}
+use Prim.Native.Nat.{ℕ, zero, suc, _+_, _/_, _%_, _^_, _≤_, _<_}
 use native.Mathlib.Nat.{div-one, pow-zero, pow-succ', div-div-eq-div-mul}
 use native.Mathlib.Omega.{arith}
 use lib.ListN.{length, drop, getD}
 use lib.Dec.{eqb}
 use Rattle.program.specs.declared.expressions.Valued.{Valued}
-use Rattle.program.specs.Program.{E, yes, var, not1, and1, nth, orF, value}
+use Rattle.program.specs.Program.{E, var, not1, and1, nth, orF, value}
 use Rattle.program.specs.Rows.{rowE, OkE}
 use Rattle.program.specs.Reading.{Stands}
 use Rattle.program.specs.Values.{bits, Has, Evals}

@@ -2,11 +2,11 @@
 -- its first byte, so that there is one case for each kind and not one for each pair.
 use mathlib.Core.Path.{_≡_, refl, sym, ap, subst, _∙_}
 use mathlib.Core.List.{List, [], _∷_, _++_, append-assoc}
-use Prim.Native.Nat.{ℕ, zero, suc, _+_, _<_, _≤_}
+use Prim.Native.Nat.{ℕ, zero, suc, _≤_}
 use native.Mathlib.Omega.{arith}
 use lib.ListN.{length}
-use Rattle.program.specs.Program.{E, yes, var, not1, and1, I, set, open1, go, call, return, Proc, Prog}
-use Rattle.program.specs.Rows.{rowE, rowI, rows, rowP, Reads, One-program}
+use Rattle.program.specs.Program.{E, yes, var, not1, and1, I, set, open1, go, call, return, Proc}
+use Rattle.program.specs.Rows.{rowE, rowI, rows, rowP, One-program}
 use Rattle.program.proofs.Standing.{heads, tails}
 
 -- what an expression is whose row, with r behind it, is b and then t
@@ -42,13 +42,6 @@ restI (open1 x) b t r h = subst (λ n. RestI n t r (open1 x)) (sym (heads h)) (x
 restI (go e p) b t r h = subst (λ n. RestI n t r (go e p)) (sym (heads h)) (p, e, refl, tails h)
 restI (call f) b t r h = subst (λ n. RestI n t r (call f)) (sym (heads h)) (f, refl, tails h)
 restI return b t r h = subst (λ n. RestI n t r return) (sym (heads h)) (refl, tails h)
-pub unknownI : (b : ℕ) (t r : List ℕ) (i : I) → 5 ≤ b → RestI b t r i → ⊥
-unknownI zero t r i h k = omega arith
-unknownI (suc zero) t r i h k = omega arith
-unknownI (suc (suc zero)) t r i h k = omega arith
-unknownI (suc (suc (suc zero))) t r i h k = omega arith
-unknownI (suc (suc (suc (suc zero)))) t r i h k = omega arith
-unknownI (suc (suc (suc (suc (suc b))))) t r i h k = k
 
 -- of two rows that begin alike, with anything behind them, both are the same, and so is what is behind
 abbrev pub Prefixed : {A : Type 0} → (A → List ℕ) → Type 0

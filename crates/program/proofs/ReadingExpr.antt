@@ -9,7 +9,7 @@ use Rattle.std.specs.declared.result.Result.the-variants.{Ok, Err}
 use Rattle.program.specs.declared.refusals.Refusal.{Refusal}
 use Rattle.program.specs.Program.{E, yes, var, not1, and1}
 use Rattle.program.specs.Rows.{rowE, OkE}
-use Rattle.program.specs.Reading.{Stands, Got, Nothing, NoNumber, ReadNumber, ReadExpr}
+use Rattle.program.specs.Reading.{Stands, Nothing, NoNumber, ReadNumber, ReadExpr}
 use Rattle.program.proofs.Standing.{stands-join, stands-pair, past-end}
 use Rattle.program.proofs.Prefix.{RestE, restE, unknownE, prefixE}
 
@@ -28,9 +28,6 @@ module _ (n : ℕ) (s : List ℕ) (at b : ℕ) (first : Stands s at (at + 1) (b 
   seenE t g e r k = restE e t _ r (ap (λ x. x ∷ drop (at + 1) s) (sym g) ∙ sym (first .is) ∙ k)
   tag : (t : ℕ) → b ≡ t → Stands s at (at + 1) (t ∷ [])
   tag t g = subst (λ x. Stands s at (at + 1) (x ∷ [])) g first
-
-  pub is-yes : b ≡ 0 → ReadExpr n s at (Ok (at + 1))
-  is-yes g = record { it = yes; stands = tag 0 g; fine = tt }
 
   pub is-var : (x : ℕ) → b ≡ 1 → ReadNumber n s (at + 1) (Ok x) → ReadExpr n s at (Ok (at + 2))
   is-var x g k = record { it = var x; stands = stands-pair s (tag 1 g) (k .0); fine = k .1 }

@@ -1,18 +1,17 @@
 -- Reading steps and procedures. A loop passes on "what the rest answers, the whole answers".
-use mathlib.Core.Path.{_≡_, refl, sym, ap, subst, _∙_}
+use mathlib.Core.Path.{_≡_, refl, sym, subst, _∙_}
 use mathlib.Core.List.{List, [], _∷_, _++_, append-assoc}
-use Prim.Native.Nat.{ℕ, _+_, _*_, _^_, _≤_, _<_}
+use Prim.Native.Nat.{ℕ, _+_, _≤_, _<_}
 use native.Mathlib.Omega.{arith}
-use lib.ListN.{length, drop, length-drop}
+use lib.ListN.{length, drop}
 use Rattle.std.specs.declared.result.Result.{Result}
 use Rattle.std.specs.declared.result.Result.the-variants.{Ok, Err}
 use Rattle.program.specs.declared.refusals.Refusal.{Refusal}
 use Rattle.program.specs.declared.steps.Found.{Found}
 use Rattle.program.specs.declared.steps.Scope.{Scope}
-use Rattle.program.specs.declared.procedures.Procedure.{Procedure}
 use Rattle.program.specs.Program.{I, Proc}
 use Rattle.program.specs.Rows.{rowI, rowP, rows, OkI, OkP, Every}
-use Rattle.program.specs.Reading.{Stands, Got, Nothing, InScope, ReadByte, NoNumber, ReadNumber, ReadStep, NoSteps, ReadSteps, HeadOf, ReadProc}
+use Rattle.program.specs.Reading.{Stands, Nothing, InScope, ReadByte, ReadNumber, ReadStep, NoSteps, ReadSteps, ReadProc}
 use Rattle.program.proofs.Standing.{heads, tails, stands-none, stands-join, stands-pair, past-end, second}
 use Rattle.program.proofs.Prefix.{prefixI}
 
@@ -33,9 +32,6 @@ module _ (sc : Scope) (s : List ℕ) where
           q is r (omega arith) (x .1) (o .1)
 
 module _ (k m : ℕ) (s : List ℕ) (at : ℕ) where
-  pub no-own : NoNumber 7 s at → Nothing rowP (OkP k m) s at
-  no-own q p r h o = q (p .own) _ h (omega (arith, o .few))
-
   module _ (x : ℕ) (own : ReadNumber 7 s at (Ok x)) where
     -- a procedure that stands here has x variables of its own, and its number of steps next
     after-own : (p : Proc) (r : List ℕ) → drop at s ≡ rowP p ++ r → (x ≡ p .own) × (drop (at + 1) s ≡ length (p .steps) ∷ (rows rowI (p .steps) ++ r))

@@ -11,12 +11,11 @@ use Rattle.std.proofs.shelf.Lists.{drop-all}
 use Rattle.program.specs.declared.refusals.Refusal.{Refusal}
 use Rattle.program.specs.declared.procedures.Procedure.{Procedure}
 use Rattle.program.specs.declared.programs.Tally.{Tally}
-use Rattle.program.specs.declared.programs.Header.{Header}
 use Rattle.program.specs.Program.{I, set, open1, go, call, return, Proc, Prog}
-use Rattle.program.specs.Rows.{rowI, rowP, rows, OkI, OkP, Every, Reads}
-use Rattle.program.specs.Reading.{Stands, Nothing, NoNumber, ReadNumber, ReadProc, AllProcs, Tallied, NoProcs, ReadProcs, HeaderOf, NoProgram, ReadProgram}
-use Rattle.program.specs.Table.{size, total, wants}
-use Rattle.program.proofs.Standing.{heads, tails, byte-at}
+use Rattle.program.specs.Rows.{rowP, rows, OkI, OkP, Every, Reads}
+use Rattle.program.specs.Reading.{Nothing, NoNumber, ReadNumber, ReadProc, AllProcs, NoProcs, ReadProcs, NoProgram, ReadProgram}
+use Rattle.program.specs.Table.{size, total}
+use Rattle.program.proofs.Standing.{heads}
 use Rattle.program.proofs.Prefix.{prefixP, one-list}
 use Rattle.program.proofs.Sizes.{total-small}
 

@@ -15,7 +15,7 @@ use Rattle.program.specs.declared.programs.Tally.{Tally}
 use Rattle.program.specs.declared.programs.Header.{Header}
 use Rattle.program.specs.Program.{E, I, set, open1, go, call, return, Proc, Prog}
 use Rattle.program.specs.Rows.{rowE, rowI, rowP, rows, OkE, OkI, OkP, Every, Reads}
-use Rattle.program.specs.Table.{size, total, wants}
+use Rattle.program.specs.Table.{total, wants}
 
 -- the row stands in s at `at`, and ends before `end`
 pub record Stands (s : List ℕ) (at end : ℕ) (row : List ℕ) : Type 0 where

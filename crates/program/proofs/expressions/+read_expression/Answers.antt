@@ -1,12 +1,10 @@
 use native.Mathlib.Omega.{arith}
 use Rattle.std.proofs.shelf.Results.{err-from-errBy}
-use Rattle.program.proofs.ReadingExpr.{no-expr, is-yes, is-var, no-var, is-not, no-and, is-and, no-kind}
+use Rattle.program.proofs.ReadingExpr.{no-expr, is-var, no-var, is-not, no-and, is-and, no-kind}
 use Rattle.program.proofs.expressions.+read_expression.Needs as need
 
 pub returns-in-Break-tag : need.returns-in-Break-tag
 returns-in-Break-tag t c = let p = err-from-errBy (c .from-residual .result) (c .from-residual .ensures .1) in rw (p .1) (no-expr _ _ _ (c .in-Break-tag .ensures tt))
-pub returns-in-0 : need.returns-in-0
-returns-in-0 t c = is-yes _ _ _ _ (c .in-Continue-tag .ensures tt) (c .in-0 .is)
 pub returns-in-Break--var : need.returns-in-Break--var
 returns-in-Break--var t c =
     let p = err-from-errBy (c .from-residual-in-Break--var .result) (c .from-residual-in-Break--var .ensures .1) in

@@ -1,12 +1,8 @@
 use native.Mathlib.Omega.{arith}
 use Rattle.std.proofs.shelf.Results.{err-from-errBy}
-use Rattle.program.proofs.ReadingProc.{no-own, no-count, no-body, is-proc}
+use Rattle.program.proofs.ReadingProc.{no-count, no-body, is-proc}
 use Rattle.program.proofs.procedures.read_procedure.Needs as need
 
-pub returns-in-Break-own : need.returns-in-Break-own
-returns-in-Break-own c =
-    let p = err-from-errBy (c .from-residual .result) (c .from-residual .ensures .1) in
-    rw (p .1) (no-own _ _ (c .args .bytes .now) (c .args .at) (c .in-Break-own .ensures tt))
 pub returns-in-Break-steps : need.returns-in-Break-steps
 returns-in-Break-steps c =
     let p = err-from-errBy (c .from-residual-in-Break-steps .result) (c .from-residual-in-Break-steps .ensures .1) in

@@ -1,5 +1,5 @@
 use mathlib.Core.Path.{ap}
-use Prim.Native.Nat.{_+_, _*_, _≤_}
+use Prim.Native.Nat.{_+_, _*_}
 use native.Mathlib.Omega.{arith}
 use Rattle.program.proofs.Sizes.{part-small}
 use Rattle.program.proofs.procedures.table_size.Needs as need

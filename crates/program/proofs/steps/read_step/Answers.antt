@@ -1,6 +1,5 @@
-use native.Mathlib.Omega.{arith}
 use Rattle.std.proofs.shelf.Results.{err-from-errBy}
-use Rattle.program.proofs.ReadingStep.{no-step, no-set-var, no-set-expr, is-set, no-open, is-open, no-go-place, no-go-expr, is-go, no-call, is-call, is-return, no-kind}
+use Rattle.program.proofs.ReadingStep.{no-step, is-set, is-open, is-go, is-call, is-return}
 use Rattle.program.proofs.steps.read_step.Needs as need
 
 pub returns-in-Break-tag : need.returns-in-Break-tag
