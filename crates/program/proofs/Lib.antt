@@ -6,3 +6,4 @@ pub mod Evaluating
 pub mod ReadingStep
 pub mod ReadingProc
 pub mod ReadingProgram
+pub mod Walk

@@ -6,3 +6,4 @@ pub mod Rows
 pub mod Table
 pub mod Values
 pub mod Reading
+pub mod Walking

@@ -1,0 +1,2 @@
+-- What the programs print: the definitions that the contracts cite.
+pub mod Arguments

@@ -1,0 +1,51 @@
+// The arguments of a program that takes one file. Relies on std alone.
+ghost use Rattle.report.specs.Arguments.{OneFile};
+use crate::complaints::Complaint;
+use std::alloc::Global;
+
+// What is wrong with the arguments, and what they should be.
+pub fn usage(heap: Global, problem: &str) -> Complaint {
+    Complaint::new(format!(heap, "{problem}; usage: reach FILE."))
+}
+
+// The one file that is named after the program's own name.
+pub fn file_argument(heap: Global, args: &[String]) -> Result<&str, Complaint>
+    ensures { λ r. ⌜ OneFile (now (args .entry)) r ⌝ }
+{
+    match args {
+        [_, file] => Ok(file.as_str()),
+        [] | [_] => Err(usage(heap, "No file is named")),
+        _ => Err(usage(heap, "Too many arguments are given")),
+    }
+}
+
+#[cfg(test)]
+mod tests {
+    use super::*;
+    use crate::complaints::ComplaintDisplay;
+    use std::test::*;
+
+    #[test]
+    fn files(rt: LibcRuntime) -> Result<(), Fail> {
+        let cases = [
+            ("", "No file is named; usage: reach FILE."),
+            ("reach", "No file is named; usage: reach FILE."),
+            ("reach ring.txt", "ring.txt"),
+            (
+                "reach ring.txt more",
+                "Too many arguments are given; usage: reach FILE.",
+            ),
+        ];
+        for (line, expected) in cases {
+            let mut args = Vec::new(rt.alloc());
+            for word in line.split_whitespace() {
+                args.push(String::from_str(rt.alloc(), word)?)?;
+            }
+            match file_argument(rt.alloc(), args.as_slice()) {
+                Ok(file) => check_eq(file, expected)?,
+                Err(complaint) => check_eq(complaint.to_string(rt.alloc())?.as_str(), expected)?,
+            }
+        }
+        Ok(())
+    }
+}
