@@ -16,11 +16,13 @@ RestE (suc zero) t r e = (x : ℕ) × (e ≡ var x) × (t ≡ x ∷ r)
 RestE (suc (suc zero)) t r e = (f : E) × (e ≡ not1 f) × (t ≡ rowE f ++ r)
 RestE (suc (suc (suc zero))) t r e = (f : E) × (g : E) × (e ≡ and1 f g) × (t ≡ rowE f ++ (rowE g ++ r))
 RestE (suc (suc (suc (suc b)))) t r e = ⊥
+
 pub restE : (e : E) (b : ℕ) (t r : List ℕ) → b ∷ t ≡ rowE e ++ r → RestE b t r e
 restE yes b t r h = subst (λ n. RestE n t r yes) (sym (heads h)) (refl, tails h)
 restE (var x) b t r h = subst (λ n. RestE n t r (var x)) (sym (heads h)) (x, refl, tails h)
 restE (not1 e) b t r h = subst (λ n. RestE n t r (not1 e)) (sym (heads h)) (e, refl, tails h)
 restE (and1 e f) b t r h = subst (λ n. RestE n t r (and1 e f)) (sym (heads h)) (e, f, refl, tails h ∙ append-assoc (rowE e) (rowE f) r)
+
 pub unknownE : (b : ℕ) (t r : List ℕ) (e : E) → 4 ≤ b → RestE b t r e → ⊥
 unknownE zero t r e h k = omega arith
 unknownE (suc zero) t r e h k = omega arith
@@ -36,6 +38,7 @@ RestI (suc (suc zero)) t r s = (p : ℕ) × (e : E) × (s ≡ go e p) × (t ≡ 
 RestI (suc (suc (suc zero))) t r s = (f : ℕ) × (s ≡ call f) × (t ≡ f ∷ r)
 RestI (suc (suc (suc (suc zero)))) t r s = (s ≡ return) × (t ≡ r)
 RestI (suc (suc (suc (suc (suc b))))) t r s = ⊥
+
 pub restI : (s : I) (b : ℕ) (t r : List ℕ) → b ∷ t ≡ rowI s ++ r → RestI b t r s
 restI (set x e) b t r h = subst (λ n. RestI n t r (set x e)) (sym (heads h)) (x, e, refl, tails h)
 restI (open1 x) b t r h = subst (λ n. RestI n t r (open1 x)) (sym (heads h)) (x, refl, tails h)

@@ -26,11 +26,13 @@ no-expr n s at h e r k o = past-end s (rowE e) r (rowE-some e) h k
 module _ (n : ℕ) (s : List ℕ) (at b : ℕ) (first : Stands s at (at + 1) (b ∷ [])) where
   pub seenE : (t : ℕ) → b ≡ t → (e : E) (r : List ℕ) → drop at s ≡ rowE e ++ r → RestE t (drop (at + 1) s) r e
   seenE t g e r k = restE e t _ r (ap (λ x. x ∷ drop (at + 1) s) (sym g) ∙ sym (first .is) ∙ k)
+
   tag : (t : ℕ) → b ≡ t → Stands s at (at + 1) (t ∷ [])
   tag t g = subst (λ x. Stands s at (at + 1) (x ∷ [])) g first
 
   pub is-var : (x : ℕ) → b ≡ 1 → ReadNumber n s (at + 1) (Ok x) → ReadExpr n s at (Ok (at + 2))
   is-var x g k = record { it = var x; stands = stands-pair s (tag 1 g) (k .0); fine = k .1 }
+
   pub no-var : b ≡ 1 → NoNumber n s (at + 1) → Nothing rowE (OkE n) s at
   no-var g k e r q o = let l = seenE 1 g e r q in k (l .0) r (l .2) (subst (OkE n) (l .1) o)
 
@@ -40,6 +42,7 @@ module _ (n : ℕ) (s : List ℕ) (at b : ℕ) (first : Stands s at (at + 1) (b 
 
   pub no-and : b ≡ 3 → Nothing rowE (OkE n) s (at + 1) → Nothing rowE (OkE n) s at
   no-and g k e r q o = let l = seenE 3 g e r q in k (l .0) _ (l .3) (subst (OkE n) (l .2) o .0)
+
   pub is-and : (mid : ℕ) (r : Result ℕ Refusal) → b ≡ 3 → ReadExpr n s (at + 1) (Ok mid) → ReadExpr n s mid r → ReadExpr n s at r
   is-and mid (Ok end) g k l = record { it = and1 (k .it) (l .it); stands = stands-join s refl (tag 3 g) (stands-join s refl (k .stands) (l .stands)); fine = (k .fine, l .fine) }
   is-and mid (Err d) g k l = λ e r q o.

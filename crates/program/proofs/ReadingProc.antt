@@ -18,9 +18,11 @@ use Rattle.program.proofs.Prefix.{prefixI}
 module _ (sc : Scope) (s : List ℕ) where
   pub steps-done : (c at : ℕ) → c ≡ 0 → at ≤ length s → ReadSteps sc s c at (Ok at)
   steps-done c at e h = ([], sym e, stands-none s at h, tt)
+
   pub no-steps : (c at : ℕ) → 0 < c → Nothing rowI (InScope sc) s at → NoSteps sc s c at
   no-steps c at e q [] r l p o = omega arith
   no-steps c at e q (i ∷ is) r l p o = q i (rows rowI is ++ r) (p ∙ append-assoc (rowI i) (rows rowI is) r) (o .0)
+
   pub steps-more : (c b at : ℕ) (f : Found) (r : Result ℕ Refusal) → c ≡ b + 1 → ReadStep sc s at (Ok f) → ReadSteps sc s b (f .end) r → ReadSteps sc s c at r
   steps-more c b at f (Ok end) e p q = (p .0 .it ∷ q .0, omega (arith, q .1), stands-join s refl (p .0 .stands) (q .2), (p .0 .fine, q .3))
   steps-more c b at f (Err d) e p q = λ is r l h o. more is r l h o
@@ -36,17 +38,20 @@ module _ (k m : ℕ) (s : List ℕ) (at : ℕ) where
     -- a procedure that stands here has x variables of its own, and its number of steps next
     after-own : (p : Proc) (r : List ℕ) → drop at s ≡ rowP p ++ r → (x ≡ p .own) × (drop (at + 1) s ≡ length (p .steps) ∷ (rows rowI (p .steps) ++ r))
     after-own p r h = let e = sym (own .0 .is) ∙ h in (heads e, tails e)
+
     pub no-count : length s ≤ at + 1 → Nothing rowP (OkP k m) s at
     no-count q p r h o = past-end s (length (p .steps) ∷ []) _ (omega arith) q (after-own p r h .1)
 
     module _ (y : ℕ) (count : ReadByte s (at + 1) (Ok y)) where
       abbrev pub inside : Scope
       inside = record { vars = k + x; last = record { 0 = y }; procs = m }
+
       pub no-body : NoSteps inside s y (at + 2) → Nothing rowP (OkP k m) s at
       no-body q p r h o =
           let e = after-own p r h in
           let c : length (p .steps) ≡ y = sym (heads (sym (count .is) ∙ e .1)) in
           q (p .steps) r c (second s at (e .1)) (subst (λ z. Every (OkI (k + z) y m) (p .steps)) (sym (e .0)) (subst (λ z. Every (OkI (k + p .own) z m) (p .steps)) c (o .steps)))
+
       pub is-proc : (end : ℕ) → y ≤ 255 → ReadSteps inside s y (at + 2) (Ok end) → ReadProc k m s at (Ok (record { own = x; steps = y; first = at + 2; end = end }))
       is-proc end l q = (
         record {

@@ -24,6 +24,12 @@ split [] n h = absurd (omega arith)
 split (x ∷ xs) zero h = (x, refl, refl)
 split (x ∷ xs) (suc n) h = split xs n (omega arith)
 
+-- procedure f is p, and the next one begins at `end`
+pub record Next (g : Prog) (s : List ℕ) (f : ℕ) (p : Proc) (end : ℕ) : Type 0 where
+  pub at-f : nth (g .procs) f ≡ some p
+  pub from-f : drop f (g .procs) ≡ p ∷ drop (f + 1) (g .procs)
+  pub rest : Rest g s (f + 1) end
+
 pub rest-first : {s : List ℕ} {g : Prog} → Reads s g → Rest g s 0 1
 rest-first r = ap (drop 1) (sym (r .bytes))
 
@@ -32,8 +38,9 @@ module _ {s : List ℕ} {g : Prog} (r : Reads s g) (f at : ℕ) (h : Rest g s f 
   rest-some q =
       let p = split (g .procs) f there in
       q (p .0) (rows rowP (drop (suc f) (g .procs))) (h ∙ ap (rows rowP) (p .2)) (every-nth (OkP (g .shared) (length (g .procs))) (g .procs) f (p .0) (r .procs) (p .1))
-  pub rest-next : (k m : ℕ) (d : Procedure) → (q : ReadProc k m s at (Ok d)) → (nth (g .procs) f ≡ some (q .0 .it)) × Rest g s (f + 1) (d .end)
+
+  pub rest-next : (k m : ℕ) (d : Procedure) → (q : ReadProc k m s at (Ok d)) → Next g s f (q .0 .it) (d .end)
   rest-next k m d q =
       let p = split (g .procs) f there in
       let x = prefixP (q .0 .it) (p .0) _ _ (sym (q .0 .stands .is) ∙ h ∙ ap (rows rowP) (p .2)) in
-      (p .1 ∙ ap some (sym (x .0)), rw add-one (x .1))
+      record { at-f = p .1 ∙ ap some (sym (x .0)); from-f = rw add-one (p .2 ∙ ap (λ y. y ∷ drop (suc f) (g .procs)) (sym (x .0))); rest = rw add-one (x .1) }

@@ -14,15 +14,19 @@ stepAt g f = at1 (nth (g .procs) (f .proc))
     at1 : Option Proc → Option I
     at1 none = none
     at1 (some p) = nth (p .steps) (f .at)
+
 -- the same frame, at the next place
 abbrev pub next : Frame → Frame
 next f = record { proc = f .proc; at = f .at + 1; vars = f .vars }
+
 -- the procedure at work goes to place t
 abbrev pub to : St → ℕ → St
 to s t = record { shared = s .shared; top = record { proc = s .top .proc; at = t; vars = s .top .vars }; below = s .below }
+
 -- the procedure at work goes on to the next place, and its variables, the shared ones first, are vs
 abbrev pub with-all : St → List Bool → St
 with-all s vs = record { shared = take (length (s .shared)) vs; top = record { proc = s .top .proc; at = s .top .at + 1; vars = drop (length (s .shared)) vs }; below = s .below }
+
 -- the newest that waits goes on, with its own variables as they were
 abbrev pub back-to : St → Frame → List Frame → St
 back-to s f fs = record { shared = s .shared; top = f; below = fs }
@@ -34,7 +38,7 @@ pub data Step (g : Prog) (s : St) : St → Type 0 where
   goes : (e : E) (t : ℕ) → stepAt g (s .top) ≡ some (go e t) → Step g s (pick (value (all s) e) (to s t) (to s (s .top .at + 1)))
   -- the caller waits at the place behind the call; the procedure called begins, its own variables no
   calls : (f : ℕ) (p : Proc) → stepAt g (s .top) ≡ some (call f) → nth (g .procs) f ≡ some p →
-    Step g s (record { shared = s .shared; top = record { proc = f; at = 0; vars = blank (p .own) }; below = next (s .top) ∷ s .below })
+      Step g s (record { shared = s .shared; top = record { proc = f; at = 0; vars = blank (p .own) }; below = next (s .top) ∷ s .below })
   -- a return, where one waits; with none waiting the run is over
   returns : (f : Frame) (fs : List Frame) → stepAt g (s .top) ≡ some return → s .below ≡ f ∷ fs → Step g s (back-to s f fs)
   -- behind its last step a procedure returns too
@@ -47,10 +51,12 @@ begin g = record { shared = blank (g .shared); top = record { proc = 0; at = 0; 
     own : Option Proc → List Bool
     own none = []
     own (some p) = blank (p .own)
+
 -- a run, of any number of steps, comes to this configuration
 pub data Reached (g : Prog) : St → Type 0 where
   at-first : Reached g (begin g)
   by : {s t : St} → Reached g s → Step g s t → Reached g t
+
 -- procedure f can be at place a with these shared and own variables, whoever waits below
 abbrev pub Can : Prog → ℕ → ℕ → List Bool → List Bool → Type 0
 Can g f a sh own = (s : St) × Reached g s × (s .top .proc ≡ f) × (s .top .at ≡ a) × (s .shared ≡ sh) × (s .top .vars ≡ own)

@@ -13,9 +13,11 @@ use Rattle.program.specs.Reading.{Stands, Got}
 abbrev pub bits : ℕ → ℕ → List Bool
 bits zero v = []
 bits (suc n) v = eqb (v % 2) 1 ∷ bits n (v / 2)
+
 -- an expression over n variables stands at `at`
 abbrev pub Has : ℕ → List ℕ → ℕ → Type 0
 Has n s at = (end : ℕ) × Got rowE (OkE n) s at end
+
 -- r is the value, and the end, of the expression that stands at `at`, if its variables are the low
 -- bits of v
 abbrev pub Evals : List ℕ → ℕ → ℕ → Valued → Type 0

@@ -10,7 +10,10 @@ pub fn read_byte(bytes: &[u8], at: usize) -> Result<u8, Refusal>
     if at < bytes.len() {
         Ok(bytes[at])
     } else {
-        Err(Refusal { at, reason: Reason::EndsEarly })
+        Err(Refusal {
+            at,
+            reason: Reason::EndsEarly,
+        })
     }
 }
 

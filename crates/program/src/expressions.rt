@@ -22,7 +22,10 @@ pub fn read_expression(bytes: &[u8], at: usize, vars: usize) -> Result<usize, Re
             let mid = read_expression(bytes, at + 1, vars)?;
             read_expression(bytes, mid, vars)
         }
-        4..=255 => Err(Refusal { at, reason: Reason::UnknownExpression }),
+        4..=255 => Err(Refusal {
+            at,
+            reason: Reason::UnknownExpression,
+        }),
     }
 }
 
@@ -39,16 +42,28 @@ pub fn evaluate(bytes: &[u8], at: usize, values: u32) -> Valued
     ensures { λ r. ⌜ Evals (now (bytes .entry)) at values r ⌝ }
 {
     match bytes[at] {
-        0 => Valued { holds: true, end: at + 1 },
-        1 => Valued { holds: (values >> bytes[at + 1]) % 2 == 1, end: at + 2 },
+        0 => Valued {
+            holds: true,
+            end: at + 1,
+        },
+        1 => Valued {
+            holds: (values >> bytes[at + 1]) % 2 == 1,
+            end: at + 2,
+        },
         2 => {
             let part = evaluate(bytes, at + 1, values);
-            Valued { holds: !part.holds, end: part.end }
+            Valued {
+                holds: !part.holds,
+                end: part.end,
+            }
         }
         3 => {
             let left = evaluate(bytes, at + 1, values);
             let right = evaluate(bytes, left.end, values);
-            Valued { holds: left.holds & right.holds, end: right.end }
+            Valued {
+                holds: left.holds & right.holds,
+                end: right.end,
+            }
         }
         4..=255 => unreachable(),
     }

@@ -7,6 +7,5 @@ pub mod procedures;
 pub mod programs;
 pub mod refusals;
 pub mod steps;
-
 #[cfg(test)]
 mod tests;

@@ -56,12 +56,26 @@ fn read_steps(bytes: &[u8], at: usize, count: u8, scope: Scope) -> Result<usize,
 }
 
 // The procedure at `at` of a program with `shared` shared variables and `procs` procedures.
-pub fn read_procedure(bytes: &[u8], at: usize, shared: u8, procs: usize) -> Result<Procedure, Refusal>
+pub fn read_procedure(
+    bytes: &[u8],
+    at: usize,
+    shared: u8,
+    procs: usize,
+) -> Result<Procedure, Refusal>
     ensures { λ r. ⌜ ReadProc shared procs (now (bytes .entry)) at r ⌝ }
 {
     let own = read_number(bytes, at, MOST_VARIABLES + 1, Reason::TooManyVariables)?;
     let steps = read_byte(bytes, at + 1)?;
-    let scope = Scope { vars: shared as usize + own as usize, last: PlaceNo(steps), procs };
+    let scope = Scope {
+        vars: shared as usize + own as usize,
+        last: PlaceNo(steps),
+        procs,
+    };
     let end = read_steps(bytes, at + 2, steps, scope)?;
-    Ok(Procedure { own, steps, first: at + 2, end })
+    Ok(Procedure {
+        own,
+        steps,
+        first: at + 2,
+        end,
+    })
 }

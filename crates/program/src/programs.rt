@@ -14,6 +14,7 @@ use crate::refusals::Refusal;
 
 // The most bytes and procedures that a program has.
 pub const MOST_BYTES: usize = 8192;
+
 pub const MOST_PROCEDURES: usize = 64;
 
 // What is known of a program once it is read: its shared variables, its procedures, the bytes of its
@@ -50,11 +51,17 @@ fn read_procedures(bytes: &[u8], shared: u8, procs: usize) -> Result<Tally, Refu
     let mut tally = Tally { count: 0, table: 0 };
     while end < bytes.len() {
         if tally.count == MOST_PROCEDURES {
-            return Err(Refusal { at: end, reason: Reason::TooManyProcedures });
+            return Err(Refusal {
+                at: end,
+                reason: Reason::TooManyProcedures,
+            });
         }
         let found = read_procedure(bytes, end, shared, procs)?;
         let size = table_size(shared, found.own, found.steps);
-        tally = Tally { count: tally.count + 1, table: tally.table + size };
+        tally = Tally {
+            count: tally.count + 1,
+            table: tally.table + size,
+        };
         end = found.end;
     }
     Ok(tally)
@@ -66,14 +73,25 @@ pub fn read(bytes: &[u8]) -> Result<Header, Refusal>
     ensures one { λ _. ⌜ One-program ⌝ }
 {
     if bytes.len() > MOST_BYTES {
-        return Err(Refusal { at: MOST_BYTES, reason: Reason::TooLong });
+        return Err(Refusal {
+            at: MOST_BYTES,
+            reason: Reason::TooLong,
+        });
     }
     let shared = read_number(bytes, 0, MOST_VARIABLES + 1, Reason::TooManyVariables)?;
     let counted = read_procedures(bytes, shared, MOST_PROCEDURES)?;
     if counted.count == 0 {
-        return Err(Refusal { at: 1, reason: Reason::NoProcedure });
+        return Err(Refusal {
+            at: 1,
+            reason: Reason::NoProcedure,
+        });
     }
     let again = read_procedures(bytes, shared, counted.count)?;
     let work = work_words(shared, again.table);
-    Ok(Header { shared, procs: again.count, table: again.table, work })
+    Ok(Header {
+        shared,
+        procs: again.count,
+        table: again.table,
+        work,
+    })
 }

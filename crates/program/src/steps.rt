@@ -56,23 +56,47 @@ pub fn read_step(bytes: &[u8], at: usize, scope: Scope) -> Result<Found, Refusal
         0 => {
             let var = read_number(bytes, at + 1, scope.vars, Reason::NoSuchVariable)?;
             let end = read_expression(bytes, at + 2, scope.vars)?;
-            Ok(Found { step: Step::Set { var: VarNo(var), expr: ExprAt(at + 2) }, end })
+            Ok(Found {
+                step: Step::Set {
+                    var: VarNo(var),
+                    expr: ExprAt(at + 2),
+                },
+                end,
+            })
         }
         1 => {
             let open = read_number(bytes, at + 1, scope.vars, Reason::NoSuchVariable)?;
-            Ok(Found { step: Step::Open(VarNo(open)), end: at + 2 })
+            Ok(Found {
+                step: Step::Open(VarNo(open)),
+                end: at + 2,
+            })
         }
         2 => {
             let places = scope.last.0 as usize + 1;
             let place = read_number(bytes, at + 1, places, Reason::NoSuchPlace)?;
             let past = read_expression(bytes, at + 2, scope.vars)?;
-            Ok(Found { step: Step::Go { place: PlaceNo(place), expr: ExprAt(at + 2) }, end: past })
+            Ok(Found {
+                step: Step::Go {
+                    place: PlaceNo(place),
+                    expr: ExprAt(at + 2),
+                },
+                end: past,
+            })
         }
         3 => {
             let callee = read_number(bytes, at + 1, scope.procs, Reason::NoSuchProcedure)?;
-            Ok(Found { step: Step::Call(ProcNo(callee)), end: at + 2 })
+            Ok(Found {
+                step: Step::Call(ProcNo(callee)),
+                end: at + 2,
+            })
         }
-        4 => Ok(Found { step: Step::Return, end: at + 1 }),
-        5..=255 => Err(Refusal { at, reason: Reason::UnknownStep }),
+        4 => Ok(Found {
+            step: Step::Return,
+            end: at + 1,
+        }),
+        5..=255 => Err(Refusal {
+            at,
+            reason: Reason::UnknownStep,
+        }),
     }
 }

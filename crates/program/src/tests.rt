@@ -40,7 +40,13 @@ fn each_reason_of_refusal() -> Result<(), Fail> {
         Refused(&[0, 0, 2, 3, 5, 5], 5, Reason::UnknownStep),
     ];
     for case in cases {
-        check_eq(read(case.0), Err(Refusal { at: case.1, reason: case.2 }))?;
+        check_eq(
+            read(case.0),
+            Err(Refusal {
+                at: case.1,
+                reason: case.2,
+            }),
+        )?;
     }
     Ok(())
 }
@@ -52,11 +58,43 @@ struct Accepted<'a>(&'a [u8], Header);
 fn small_programs() -> Result<(), Fail> {
     let ring = [1, 0, 1, 3, 1, 1, 4, 1, 1, 2, 3, 1, 1, 3, 1, 0, 0, 2, 1, 0];
     let cases = [
-        Accepted(&[0, 0, 0], Header { shared: 0, procs: 1, table: 1, work: 4105 }),
+        Accepted(
+            &[0, 0, 0],
+            Header {
+                shared: 0,
+                procs: 1,
+                table: 1,
+                work: 4105,
+            },
+        ),
         // going to the place behind the last step
-        Accepted(&[1, 0, 1, 2, 1, 0], Header { shared: 1, procs: 1, table: 4, work: 4136 }),
-        Accepted(&[6, 6, 0], Header { shared: 6, procs: 1, table: 4096, work: 299008 }),
-        Accepted(&ring, Header { shared: 1, procs: 2, table: 24, work: 4336 }),
+        Accepted(
+            &[1, 0, 1, 2, 1, 0],
+            Header {
+                shared: 1,
+                procs: 1,
+                table: 4,
+                work: 4136,
+            },
+        ),
+        Accepted(
+            &[6, 6, 0],
+            Header {
+                shared: 6,
+                procs: 1,
+                table: 4096,
+                work: 299008,
+            },
+        ),
+        Accepted(
+            &ring,
+            Header {
+                shared: 1,
+                procs: 2,
+                table: 24,
+                work: 4336,
+            },
+        ),
     ];
     for case in cases {
         check_eq(read(case.0), Ok(case.1))?;
@@ -90,13 +128,41 @@ fn limits_of_a_program(rt: LibcRuntime) -> Result<(), Fail> {
     let heap = rt.alloc();
     let full = returning(heap, 31, &[222])?;
     check_eq(full.len(), 8192)?;
-    check_eq(read(&full), Ok(Header { shared: 0, procs: 32, table: 8159, work: 77527 }))?;
+    check_eq(
+        read(&full),
+        Ok(Header {
+            shared: 0,
+            procs: 32,
+            table: 8159,
+            work: 77527,
+        }),
+    )?;
     let long = returning(heap, 31, &[223])?;
-    check_eq(read(&long), Err(Refusal { at: 8192, reason: Reason::TooLong }))?;
+    check_eq(
+        read(&long),
+        Err(Refusal {
+            at: 8192,
+            reason: Reason::TooLong,
+        }),
+    )?;
     let many = returning(heap, 0, &[0; 64])?;
-    check_eq(read(&many), Ok(Header { shared: 0, procs: 64, table: 64, work: 4672 }))?;
+    check_eq(
+        read(&many),
+        Ok(Header {
+            shared: 0,
+            procs: 64,
+            table: 64,
+            work: 4672,
+        }),
+    )?;
     let more = returning(heap, 0, &[0; 65])?;
-    check_eq(read(&more), Err(Refusal { at: 129, reason: Reason::TooManyProcedures }))
+    check_eq(
+        read(&more),
+        Err(Refusal {
+            at: 129,
+            reason: Reason::TooManyProcedures,
+        }),
+    )
 }
 
 // `depth` times not, and then yes.
@@ -112,7 +178,15 @@ fn nested(heap: Global, depth: usize) -> Result<Vec<u8>, AllocError> {
 #[test]
 fn deeply_nested(rt: LibcRuntime) -> Result<(), Fail> {
     let bytes = nested(rt.alloc(), 8000)?;
-    check_eq(read(&bytes), Ok(Header { shared: 1, procs: 1, table: 4, work: 4136 }))
+    check_eq(
+        read(&bytes),
+        Ok(Header {
+            shared: 1,
+            procs: 1,
+            table: 4,
+            work: 4136,
+        }),
+    )
 }
 
 #[derive(Clone, Copy)]

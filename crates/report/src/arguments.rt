@@ -1,10 +1,15 @@
 // The arguments of a program that takes one file. Relies on std alone.
+ghost use mathlib.Core.List.{_++_};
+ghost use lib.Chars.{codes};
 ghost use Rattle.report.specs.Arguments.{OneFile};
+ghost use Rattle.report.specs.Complaints.{Said};
 use crate::complaints::Complaint;
 use std::alloc::Global;
 
 // What is wrong with the arguments, and what they should be.
-pub fn usage(heap: Global, problem: &str) -> Complaint {
+pub fn usage(heap: Global, problem: &str) -> Complaint
+    ensures { λ r. ⌜ Said r (now (problem .entry) ++ codes "; usage: reach FILE.") ⌝ }
+{
     Complaint::new(format!(heap, "{problem}; usage: reach FILE."))
 }
 

@@ -3,6 +3,10 @@
 ghost use mathlib.Core.Path.{_≡_};
 ghost use Prim.Native.Nat.{_-_, _<_, _≤_};
 ghost use lib.ListN.{length, getD};
+ghost use mathlib.Core.List.{_++_};
+ghost use lib.Chars.{codes};
+ghost use Rattle.std.specs.declared.io.ErrorKind.the-variants.{NotFound};
+ghost use Rattle.report.specs.Complaints.{Said};
 use crate::complaints::Complaint;
 use program::refusals::Reason;
 use program::refusals::Refusal;
@@ -80,7 +84,9 @@ fn word_at(text: &[u8], place: Place) -> Word<'_> {
 }
 
 // Why `file` cannot be read.
-pub fn unreadable(heap: Global, file: &str, kind: ErrorKind) -> Complaint {
+pub fn unreadable(heap: Global, file: &str, kind: ErrorKind) -> Complaint
+    ensures { λ r. ⌜ (kind ≡ NotFound → Said r (codes "There is no file " ++ now (file .entry) ++ codes ".")) ⌝ }
+{
     match kind {
         ErrorKind::NotFound => Complaint::new(format!(heap, "There is no file {file}.")),
         ErrorKind::OutOfMemory => Complaint::Memory,
@@ -89,7 +95,9 @@ pub fn unreadable(heap: Global, file: &str, kind: ErrorKind) -> Complaint {
 }
 
 // Why `text` lists no bytes.
-pub fn no_listing(heap: Global, file: &str, text: &[u8], fault: Fault) -> Complaint {
+pub(crate) fn no_listing(heap: Global, file: &str, text: &[u8], fault: Fault) -> Complaint
+    ensures { λ r. ⌜ (fault ≡ Fault.Memory → r ≡ Complaint.Memory) ⌝ }
+{
     match fault {
         Fault::NoNumber(place) => {
             let line = place.line;
@@ -112,7 +120,12 @@ pub fn no_listing(heap: Global, file: &str, text: &[u8], fault: Fault) -> Compla
 }
 
 // Why the bytes of `listing` are no program.
-pub fn no_program(heap: Global, file: &str, listing: &Listing, refusal: Refusal) -> Complaint {
+pub(crate) fn no_program(
+    heap: Global,
+    file: &str,
+    listing: &Listing,
+    refusal: Refusal,
+) -> Complaint {
     let at = refusal.at;
     let line = line_of(listing.lines.as_slice(), at);
     match wording(refusal.reason) {

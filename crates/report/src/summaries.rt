@@ -1,5 +1,8 @@
 // What `reach` tells of a program before it is decided. Relies on `program` for reading a program
 // and on `syntax` for its byte form.
+ghost use Rattle.std.specs.declared.result.Result.the-variants.{Ok};
+ghost use Rattle.program.specs.Reading.{ReadProgram};
+ghost use Rattle.report.specs.Summaries.{Walked, Summarised};
 use crate::complaints::Complaint;
 use crate::complaints::ComplaintFromAlloc;
 use crate::complaints::ComplaintFromRefused;
@@ -52,29 +55,27 @@ impl fmt::Display for Overview as OverviewDisplay {
     }
 }
 
-// The procedures of a program, which follow its first byte.
-fn procedures(
-    heap: Global,
-    file: &str,
-    listing: &Listing,
-    header: Header,
-) -> Result<Vec<Procedure>, Complaint> {
+// The procedures of a program that was read, which follow its first byte.
+fn procedures(heap: Global, bytes: &[u8], header: Header) -> Result<Vec<Procedure>, Complaint>
+    requires { ⌜ ReadProgram (now bytes) (Ok header) ⌝ }
+    ensures { λ r. ⌜ Walked (now (bytes .entry)) header r ⌝ }
+{
     let mut all = Vec::new(heap);
     let mut at = 1;
-    for _ in 0..header.procs {
-        match read_procedure(listing.bytes.as_slice(), at, header.shared, header.procs) {
-            Ok(procedure) => {
-                all.push(procedure)?;
-                at = procedure.end;
-            }
-            Err(refusal) => return Err(no_program(heap, file, listing, refusal)),
-        }
+    for _i in 0..header.procs {
+        let Ok(procedure) = read_procedure(bytes, at, header.shared, header.procs) else {
+            unreachable()
+        };
+        all.push(procedure)?;
+        at = procedure.end;
     }
     Ok(all)
 }
 
 // What there is to tell of the program that `file` holds as `text`.
-pub fn summary(heap: Global, file: &str, text: &[u8]) -> Result<String, Complaint> {
+pub fn summary(heap: Global, file: &str, text: &[u8]) -> Result<String, Complaint>
+    ensures { λ r. ⌜ Summarised (now (text .entry)) r ⌝ }
+{
     let listing = match read_decimal(heap, text) {
         Ok(listing) => listing,
         Err(fault) => return Err(no_listing(heap, file, text, fault)),
@@ -85,7 +86,7 @@ pub fn summary(heap: Global, file: &str, text: &[u8]) -> Result<String, Complain
     };
     let overview = Overview {
         header,
-        procedures: procedures(heap, file, &listing, header)?,
+        procedures: procedures(heap, listing.bytes.as_slice(), header)?,
     };
     Ok(format!(heap, "{overview}")?)
 }

@@ -1,3 +1,4 @@
 pub mod Splitting
 pub mod Values
 pub mod Writing
+pub mod Once

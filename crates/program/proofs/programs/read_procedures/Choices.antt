@@ -13,6 +13,7 @@ pub record Inv (k m : ℕ) (s : List ℕ) (at : ℕ) (b : Tally) : Type 0 where
   pub few : b .count ≤ 64
   pub small : b .table ≤ b .count * 1048576
   pub rest : (r : Result Tally Refusal) → ReadProcs k m s at (64 - b .count) b r → ReadProcs k m s 1 64 (record { count = 0; table = 0 }) r
+
 abbrev pub Inv-loop-end : given.InvT-loop-end
 Inv-loop-end l = Inv (l .shared) (l .procs) (l .bytes) (l .end) (l .tally)
 
