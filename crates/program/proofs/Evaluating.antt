@@ -3,26 +3,19 @@
 use mathlib.Core.Path.{_≡_, refl, sym, ap, subst, _∙_}
 use mathlib.Core.Bool.{true, not, _&&_}
 use mathlib.Core.List.{List, [], _∷_, _++_}
-use mathlib.Core.Option.{some}
-use Prim.Native.Nat.{ℕ, zero, suc, _+_, _/_, _%_, _^_, _≤_, _<_}
-use native.Mathlib.Nat.{div-one, pow-zero, pow-succ', div-div-eq-div-mul}
+use Prim.Native.Nat.{ℕ, _+_, _/_, _%_, _^_, _≤_, _<_}
 use native.Mathlib.Omega.{arith}
 use lib.ListN.{length, drop, getD}
 use lib.Dec.{eqb}
 use Rattle.program.specs.declared.expressions.Valued.{Valued}
-use Rattle.program.specs.Program.{E, var, not1, and1, nth, orF, value}
+use Rattle.program.specs.Program.{E, var, not1, and1, orF, value}
 use Rattle.program.specs.Rows.{rowE, OkE}
 use Rattle.program.specs.Reading.{Stands}
 use Rattle.program.specs.Values.{bits, Has, Evals}
+use Rattle.program.proofs.Nums.{nth-bits}
 use Rattle.program.proofs.Standing.{stands-byte, stands-left, stands-right, byte-at}
 use Rattle.program.proofs.Prefix.{RestE, unknownE}
 use Rattle.program.proofs.ReadingExpr.{rowE-some, seenE}
-
-pub nth-bits : (n v x : ℕ) → x < n → nth (bits n v) x ≡ some (eqb (v / 2 ^ x % 2) 1)
-nth-bits zero v x h = absurd (omega arith)
-nth-bits (suc n) v zero h = ap (λ k. some (eqb (k % 2) 1)) (sym (ap (λ k. v / k) (pow-zero 2) ∙ div-one v))
-nth-bits (suc n) v (suc x) h =
-    nth-bits n (v / 2) x (omega arith) ∙ ap (λ k. some (eqb (k % 2) 1)) (div-div-eq-div-mul v 2 (2 ^ x) ∙ ap (λ k. v / k) (sym (pow-succ' 2 x)))
 
 module _ (s : List ℕ) (at : ℕ) where
   in-range : (e : E) (end : ℕ) → Stands s at end (rowE e) → at < length s

@@ -7,3 +7,7 @@ pub mod Table
 pub mod Values
 pub mod Reading
 pub mod Walking
+pub mod Systems
+pub mod Numbers
+pub mod WellFormed
+pub mod Laws

@@ -1,7 +1,7 @@
 -- What a program can do: its steps, its runs, and where it can be.
 use mathlib.Core.Path.{_≡_}
 use mathlib.Core.Bool.{Bool}
-use mathlib.Core.List.{List, [], _∷_}
+use mathlib.Core.List.{List, [], _∷_, _++_}
 use mathlib.Core.Option.{Option, some, none}
 use Prim.Native.Nat.{ℕ, _+_}
 use lib.ListN.{length, take, drop}
@@ -60,3 +60,12 @@ pub data Reached (g : Prog) : St → Type 0 where
 -- procedure f can be at place a with these shared and own variables, whoever waits below
 abbrev pub Can : Prog → ℕ → ℕ → List Bool → List Bool → Type 0
 Can g f a sh own = (s : St) × Reached g s × (s .top .proc ≡ f) × (s .top .at ≡ a) × (s .shared ≡ sh) × (s .top .vars ≡ own)
+
+-- a run from s in which no step begins with fewer waiting than these, the oldest of those that wait
+pub data Keeps (g : Prog) (fs : List Frame) (s : St) : St → Type 0 where
+  stay : Keeps g fs s s
+  more : {t u : St} (newer : List Frame) → Keeps g fs s t → t .below ≡ newer ++ fs → Step g t u → Keeps g fs s u
+
+-- the same with these waiting further below
+abbrev pub over : St → List Frame → St
+over s fs = record { shared = s .shared; top = s .top; below = s .below ++ fs }

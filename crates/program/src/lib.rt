@@ -3,9 +3,11 @@
 // This crate knows nothing of how reachability is decided.
 pub mod bytes;
 pub mod expressions;
+pub mod laws;
 pub mod procedures;
 pub mod programs;
 pub mod refusals;
 pub mod steps;
 #[cfg(test)]
 mod tests;
+pub mod values;

@@ -1,0 +1,5 @@
+pub mod Runs
+pub mod Filling
+pub mod Decide
+pub mod Listing
+pub mod Example
