@@ -1,14 +1,14 @@
 -- The numbered system is finite, and each of its moves can be told: so summaries are decided, and so is
 -- how many can wait.
 use mathlib.Core.Path.{_≡_, refl, sym, ap, subst, _∙_}
-use mathlib.Core.Logic.{_⊎_, inl, inr, ⊎-elim}
+use mathlib.Core.Logic.{_⊎_, inl, inr, ⊎-elim, Dec·and, Dec·of-iff}
 use mathlib.Core.List.{List·Memᴰ as Mem}
 use Prim.Native.Nat.{ℕ, _+_, _^_, _%_, _<_}
 use native.Mathlib.Omega.{arith}
 use native.Mathlib.Decide.{decLt, ℕ-discrete}
 use lib.ListN.{length}
 use Rattle.pushdown.specs.System as pushdown
-use Rattle.pushdown.proofs.Filling.{both?, either?, via?}
+use Rattle.pushdown.proofs.Filling.{either?}
 use Rattle.pushdown.proofs.Decide.{Finite}
 use Rattle.pushdown.proofs.Listing.{upto, in-upto}
 use Rattle.program.specs.Program.{Prog}
@@ -29,13 +29,13 @@ module _ (g : Prog) where
 
   module _ {n : ℕ} where
     flows? : (k : Move) → MoveOf g n k → (m : ℕ) → Dec (numbered g .flow n m)
-    flows? (on x y) o m = via? (λ h. (x, y, o, h)) (λ h. let e = move-one o (h .2) in ⊎-elim (λ p. inl (p ∙ sym (fst-of e))) (λ p. inr (p ∙ sym (snd-of e))) (h .3)) (either? (ℕ-discrete m x) (ℕ-discrete m y))
+    flows? (on x y) o m = Dec·of-iff (λ h. (x, y, o, h), λ h. let e = move-one o (h .2) in ⊎-elim (λ p. inl (p ∙ sym (fst-of e))) (λ p. inr (p ∙ sym (snd-of e))) (h .3)) (either? (ℕ-discrete m x) (ℕ-discrete m y))
     flows? (down x r) o m = no (λ h. let e = move-one o (h .2) in let z : _≡_ {A = ℕ} 0 1 = cc in omega arith)
     flows? up o m = no (λ h. let e = move-one o (h .2) in let z : _≡_ {A = ℕ} 0 1 = cc in omega arith)
 
     calls? : (k : Move) → MoveOf g n k → (m : ℕ) → Dec ((r : ℕ) × numbered g .call n m r)
     calls? (on x y) o m = no (λ h. let e = move-one o (h .1) in let z : _≡_ {A = ℕ} 0 1 = cc in omega arith)
-    calls? (down x r) o m = via? (λ h. (r, subst (λ z. MoveOf g n (down z r)) h o)) (λ h. callee-of (move-one o (h .1))) (ℕ-discrete x m)
+    calls? (down x r) o m = Dec·of-iff (λ h. (r, subst (λ z. MoveOf g n (down z r)) h o), λ h. callee-of (move-one o (h .1))) (ℕ-discrete x m)
     calls? up o m = no (λ h. let e = move-one o (h .1) in let z : _≡_ {A = ℕ} 0 1 = cc in omega arith)
 
   abbrev Over : ℕ → ℕ → ℕ → ℕ → Type 0
@@ -47,9 +47,8 @@ module _ (g : Prog) where
   over? (down x r) (on y z) o q m k = no (λ h. let e = move-one q (h .3 .0) in let z : _≡_ {A = ℕ} 0 1 = cc in omega arith)
   over? (down x r) (down y z) o q m k = no (λ h. let e = move-one q (h .3 .0) in let z : _≡_ {A = ℕ} 0 1 = cc in omega arith)
   over? {n} {b} (down x r) up o q m k =
-      via? (λ h. (r, b % 2 ^ g .shared, subst (λ z. MoveOf g n (down z r)) (h .0) o, (q, refl), h .1))
-      (λ h. let e = move-one o (h .2) in (callee-of e, ap (λ z. z + b % 2 ^ g .shared) (waiter-of e) ∙ ap (λ z. h .0 + z) (sym (h .3 .1)) ∙ h .4))
-      (both? (ℕ-discrete x m) (ℕ-discrete (r + b % 2 ^ g .shared) k))
+      Dec·of-iff (λ h. (r, b % 2 ^ g .shared, subst (λ z. MoveOf g n (down z r)) (h .0) o, (q, refl), h .1), λ h. let e = move-one o (h .2) in (callee-of e, ap (λ z. z + b % 2 ^ g .shared) (waiter-of e) ∙ ap (λ z. h .0 + z) (sym (h .3 .1)) ∙ h .4))
+      (Dec·and (ℕ-discrete x m) (ℕ-discrete (r + b % 2 ^ g .shared) k))
 
   pub finite : Good g → Finite (numbered g)
   finite w = record {

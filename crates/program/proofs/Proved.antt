@@ -1,11 +1,10 @@
 -- The laws of programs: each from the theory of pushdown systems, by the program's system or by its numbers.
 use mathlib.Core.Path.{_≡_, refl, sym, ap, subst, _∙_}
-use mathlib.Core.Logic.{inl, inr, ⊎-elim}
+use mathlib.Core.Logic.{inl, inr, ⊎-elim, Dec·of-iff}
 use Prim.Native.Nat.{_<_}
 use native.Mathlib.Omega.{arith}
 use lib.ListN.{length, length-map}
 use Rattle.pushdown.specs.System as pushdown
-use Rattle.pushdown.proofs.Filling.{via?}
 use Rattle.pushdown.proofs.Runs.{returns-is, least, reached-is}
 use Rattle.pushdown.proofs.Decide.{deep?, reached?}
 use Rattle.program.specs.Program.{Prog}
@@ -52,7 +51,7 @@ told : Told
 told s g r f p a sh own h =
     let w = good r in
     let c = can-iff w h in
-    via? (c .1) (c .0) (reached? (numbered g) (finite g w) 0 (in-table g w 0 (root-in w)) _)
+    Dec·of-iff (c .1, c .0) (reached? (numbered g) (finite g w) 0 (in-table g w 0 (root-in w)) _)
 
 bounded-or-not : Bounded-or-not
 bounded-or-not s g r =

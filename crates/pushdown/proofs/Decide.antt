@@ -2,7 +2,7 @@
 -- all that it calls are ranked; when nothing new can be ranked, an entry that is not calls another that
 -- is not, so that there are chains of any length.
 use mathlib.Core.Path.{_≡_, refl, sym, ap, subst}
-use mathlib.Core.Logic.{_⊎_, inl, inr, ⊎-elim}
+use mathlib.Core.Logic.{_⊎_, inl, inr, ⊎-elim, Dec·and, Dec·not, Dec·of-iff, Dec·not-not}
 use mathlib.Core.List.{List, [], _∷_, _++_, List·Memᴰ as Mem, List·Memᴰ·head as head, List·Memᴰ·tail as tail, List·Memᴰ·cases-cons as cases-cons, List·Memᴰ·not-nil as not-nil, Memᴰ·append-left as append-left, Memᴰ·append-right as append-right}
 use Prim.Native.Nat.{ℕ, zero, suc, _≤_}
 use native.Mathlib.Omega.{arith}
@@ -11,7 +11,7 @@ use lib.ListN.{length}
 use Rattle.pushdown.specs.System.{Sys, Reached, Inside, here, on, over, Entered, first, enters, Calls, Chain, stop, link, Closed}
 use Rattle.pushdown.specs.Laws.{Deepest}
 use Rattle.pushdown.proofs.Runs.{least, reached-is, depth-is}
-use Rattle.pushdown.proofs.Filling.{both?, either?, not?, via?, stable, Any, any?, mem?, Full, filled}
+use Rattle.pushdown.proofs.Filling.{either?, Any, any?, mem?, Full, filled}
 
 pub pair : {A B : Type 0} → A → List B → List (A × B)
 pair a [] = []
@@ -48,8 +48,8 @@ module _ {N R X : Type 0} (S : Sys N R X) (F : Finite S) where
       Any s (λ q. (q .0 ≡ p .0) × Any s (λ z. (r : R) × (x : X) × S .call (q .1) (z .0) r × S .exit (z .1) x × (S .resume r x ≡ p .1))))
 
   new? : (s : List (N × N)) (p : N × N) → Dec (New s p)
-  new? s p = either? (F .same (p .0) (p .1)) (either? (any? s _ (λ q. both? (F .same (q .0) (p .0)) (F .flow? (q .1) (p .1))))
-      (any? s _ (λ q. both? (F .same (q .0) (p .0)) (any? s _ (λ z. F .over? (q .1) (z .0) (z .1) (p .1))))))
+  new? s p = either? (F .same (p .0) (p .1)) (either? (any? s _ (λ q. Dec·and (F .same (q .0) (p .0)) (F .flow? (q .1) (p .1))))
+      (any? s _ (λ q. Dec·and (F .same (q .0) (p .0)) (any? s _ (λ z. F .over? (q .1) (z .0) (z .1) (p .1))))))
 
   In : N × N → Type 0
   In p = Inside S (p .0) (p .1)
@@ -83,11 +83,11 @@ module _ {N R X : Type 0} (S : Sys N R X) (F : Finite S) where
   inside-in me i = least told i me .0
 
   same2 : (p q : N × N) → Dec (p ≡ q)
-  same2 p q = via? (λ h i. (h .0 i, h .1 i)) (λ e. (ap (λ (z : N × N). z .0) e, ap (λ (z : N × N). z .1) e)) (both? (F .same (p .0) (q .0)) (F .same (p .1) (q .1)))
+  same2 p q = Dec·of-iff (λ h i. (h .0 i, h .1 i), λ e. (ap (λ (z : N × N). z .0) e, ap (λ (z : N × N). z .1) e)) (Dec·and (F .same (p .0) (q .0)) (F .same (p .1) (q .1)))
 
   pub inside? : (e n : N) → Mem e (F .nodes) → Dec (Inside S e n)
   unfolding Told In
-  inside? e n me = via? (table .right (e, n)) (λ i. least told i me .1) (mem? same2 (e, n) (table .out))
+  inside? e n me = Dec·of-iff (table .right (e, n), λ i. least told i me .1) (mem? same2 (e, n) (table .out))
 
   -- one procedure, begun at a node of the list, calls another
   abbrev Within : N → N → Type 0
@@ -98,8 +98,8 @@ module _ {N R X : Type 0} (S : Sys N R X) (F : Finite S) where
     where
       go : Dec (Mem e (F .nodes)) → Dec (Within e m)
       go (no h) = no (λ p. h (p .0))
-      go (yes me) = via? (λ h. (me, (h .0, h .2 .1 .0, h .2 .0, h .2 .1 .1))) (λ p. (p .1 .0, inside-in me (p .1 .2), (p .1 .2, (p .1 .1, p .1 .3))))
-          (any? (F .nodes) (λ n. Inside S e n × ((r : R) × S .call n m r)) (λ n. both? (inside? e n me) (F .call? n m)))
+      go (yes me) = Dec·of-iff (λ h. (me, (h .0, h .2 .1 .0, h .2 .0, h .2 .1 .1)), λ p. (p .1 .0, inside-in me (p .1 .2), (p .1 .2, (p .1 .1, p .1 .3))))
+          (any? (F .nodes) (λ n. Inside S e n × ((r : R) × S .call n m r)) (λ n. Dec·and (inside? e n me) (F .call? n m)))
 
   pub calls-in : {e m : N} → Mem e (F .nodes) → Calls S e m → Mem m (F .nodes)
   calls-in me h = F .call-in (inside-in me (h .2)) (h .3)
@@ -127,7 +127,7 @@ module _ {N R X : Type 0} (S : Sys N R X) (F : Finite S) where
         (mm, entries .closed m mm (inr (e, k .1, (k .0, (n, r, i, c)))))
 
     pub entered? : (e : N) → Dec (Entered S root e)
-    entered? e = via? (entries .right e) (λ h. listed h .1) (mem? (F .same) e (entries .out))
+    entered? e = Dec·of-iff (entries .right e, λ h. listed h .1) (mem? (F .same) e (entries .out))
 
     abbrev At : N → N → Type 0
     At n e = Mem e (F .nodes) × Entered S root e × Inside S e n
@@ -137,10 +137,10 @@ module _ {N R X : Type 0} (S : Sys N R X) (F : Finite S) where
       where
         go : Dec (Mem e (F .nodes)) → Dec (At n e)
         go (no h) = no (λ p. h (p .0))
-        go (yes me) = via? (λ h. (me, h .0, h .1)) (λ h. (h .1, h .2)) (both? (entered? e) (inside? e n me))
+        go (yes me) = Dec·of-iff (λ h. (me, h .0, h .1), λ h. (h .1, h .2)) (Dec·and (entered? e) (inside? e n me))
 
     pub reached? : (n : N) → Dec ((s : List R) × Reached S root n s)
-    reached? n = via? (λ h. reached-is .1 (h .0, h .2 .1, h .2 .2)) (λ h. let k = reached-is .0 h in (k .0, listed (k .1) .0, (listed (k .1) .0, k .1, k .2))) (any? (F .nodes) (At n) (at? n))
+    reached? n = Dec·of-iff (λ h. reached-is .1 (h .0, h .2 .1, h .2 .2), λ h. let k = reached-is .0 h in (k .0, listed (k .1) .0, (listed (k .1) .0, k .1, k .2))) (any? (F .nodes) (At n) (at? n))
 
   -- the most calls, one within another, from a node on
   pub record Height (e : N) : Type 0 where
@@ -188,20 +188,20 @@ module _ {N R X : Type 0} (S : Sys N R X) (F : Finite S) where
   Open s e = Any (F .nodes) (λ m. Within e m × ¬ (Mem m s))
 
   open? : (s : List N) (e : N) → Dec (Open s e)
-  open? s e = any? (F .nodes) _ (λ m. both? (within? e m) (not? (mem? (F .same) m s)))
+  open? s e = any? (F .nodes) _ (λ m. Dec·and (within? e m) (Dec·not (mem? (F .same) m s)))
 
   abbrev Ranked : N → Type 0
   Ranked e = Mem e (F .nodes) → Height e
 
   ranked : (s : List N) → ((e : N) → Mem e s → Ranked e) → (e : N) → ¬ (Open s e) → Ranked e
-  ranked s d e h me = height e me (λ m c. let mm = calls-in me c in d m (stable (mem? (F .same) m s) (λ k. h (m, mm, ((me, c), k)))) mm)
+  ranked s d e h me = height e me (λ m c. let mm = calls-in me c in d m (Dec·not-not (mem? (F .same) m s) .0 (λ k. h (m, mm, ((me, c), k)))) mm)
 
-  ranks : Full (λ s e. ¬ (Open s e)) (λ s e. not? (open? s e)) Ranked ranked (F .nodes) []
-  ranks = filled (λ s e. ¬ (Open s e)) (λ s e. not? (open? s e)) Ranked ranked (F .nodes)
+  ranks : Full (λ s e. ¬ (Open s e)) (λ s e. Dec·not (open? s e)) Ranked ranked (F .nodes) []
+  ranks = filled (λ s e. ¬ (Open s e)) (λ s e. Dec·not (open? s e)) Ranked ranked (F .nodes)
 
   endless : (d : ℕ) (e : N) → Mem e (F .nodes) → ¬ (Mem e (ranks .out)) → Chain S e d
   endless zero e me k = stop
-  endless (suc d) e me k = let h = stable (open? (ranks .out) e) (λ q. k (ranks .closed e me q)) in link (h .2 .0 .1) (endless d (h .0) (h .1) (h .2 .1))
+  endless (suc d) e me k = let h = Dec·not-not (open? (ranks .out) e) .0 (λ q. k (ranks .closed e me q)) in link (h .2 .0 .1) (endless d (h .0) (h .1) (h .2 .1))
 
   -- a greatest number of calls one within another, or chains of any length
   pub chains? : (root : N) → Mem root (F .nodes) → Height root ⊎ ((d : ℕ) → Chain S root d)

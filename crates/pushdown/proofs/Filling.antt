@@ -1,34 +1,17 @@
 -- Filling a finite set by rules that can be decided, until none gives more: what is left to add is a
 -- list that gets shorter, so it ends, and there is nothing to count.
 use mathlib.Core.Path.{_≡_, refl, sym, ap, subst}
-use mathlib.Core.Logic.{_⊎_, inl, inr, ⊎-elim}
+use mathlib.Core.Logic.{_⊎_, inl, inr, ⊎-elim, Dec·of-iff}
 use mathlib.Core.List.{List, [], _∷_, List·Memᴰ as Mem, List·Memᴰ·head as head, List·Memᴰ·tail as tail, List·Memᴰ·cases-cons as cases-cons, List·Memᴰ·not-nil as not-nil}
 use Prim.Native.Nat.{ℕ, zero, suc}
 use native.Mathlib.Omega.{arith}
 use lib.ListN.{length}
 
 -- decided types
-pub both? : {A B : Type 0} → Dec A → Dec B → Dec (A × B)
-both? (yes a) (yes b) = yes (a, b)
-both? (yes a) (no h) = no (λ p. h (p .1))
-both? (no h) b = no (λ p. h (p .0))
-
 pub either? : {A B : Type 0} → Dec A → Dec B → Dec (A ⊎ B)
 either? (yes a) b = yes (inl a)
 either? (no h) (yes b) = yes (inr b)
 either? (no h) (no k) = no (⊎-elim h k)
-
-pub not? : {A : Type 0} → Dec A → Dec (¬ A)
-not? (yes a) = no (λ h. h a)
-not? (no h) = yes h
-
-pub via? : {A B : Type 0} → (A → B) → (B → A) → Dec A → Dec B
-via? f g (yes a) = yes (f a)
-via? f g (no h) = no (λ b. h (g b))
-
-pub stable : {A : Type 0} → Dec A → ¬ (¬ A) → A
-stable (yes a) h = a
-stable (no k) h = absurd (h k)
 
 -- some member of the list
 abbrev pub Any : {A : Type 0} → List A → (A → Type 0) → Type 0
@@ -36,7 +19,7 @@ Any {A} l P = (a : A) × Mem a l × P a
 
 pub any? : {A : Type 0} (l : List A) (P : A → Type 0) → ((a : A) → Dec (P a)) → Dec (Any l P)
 any? [] P p? = no (λ h. not-nil (h .1))
-any? {A} (a ∷ l) P p? = via? to from (either? (p? a) (any? l P p?))
+any? {A} (a ∷ l) P p? = Dec·of-iff (to, from) (either? (p? a) (any? l P p?))
   where
     to : P a ⊎ Any l P → Any (a ∷ l) P
     to (inl h) = (a, head refl, h)
@@ -47,7 +30,7 @@ any? {A} (a ∷ l) P p? = via? to from (either? (p? a) (any? l P p?))
 
 pub mem? : {A : Type 0} → ((a b : A) → Dec (a ≡ b)) → (a : A) (l : List A) → Dec (Mem a l)
 mem? same a [] = no not-nil
-mem? same a (b ∷ l) = via? (⊎-elim head tail) cases-cons (either? (same a b) (mem? same a l))
+mem? same a (b ∷ l) = Dec·of-iff (⊎-elim head tail, cases-cons) (either? (same a b) (mem? same a l))
 
 -- a member of which P holds, and the others
 pub record Found {A : Type 0} (P : A → Type 0) (l : List A) : Type 0 where

@@ -1,6 +1,6 @@
 -- The theorems that the contracts ask for.
 use mathlib.Core.Path.{_≡_, refl, sym}
-use mathlib.Core.Logic.{_⊎_, _↔_, inl, inr, Iff·symm}
+use mathlib.Core.Logic.{_⊎_, _↔_, inl, inr, Iff·symm, Dec·and, Dec·of-iff}
 use mathlib.Core.Bool.{Bool, true, false, decide, decide-iff}
 use mathlib.Core.List.{List, [], _∷_, _++_, List·Memᴰ as Mem, List·Memᴰ·head as head, List·Memᴰ·tail as tail, List·Memᴰ·cases-cons as cases-cons, List·Memᴰ·not-nil as not-nil, Memᴰ·cast as cast}
 use Prim.Native.Nat.{ℕ, zero, suc, _<_}
@@ -11,7 +11,7 @@ use Rattle.pushdown.specs.System.{Sys, Step, Inside}
 use Rattle.pushdown.specs.Listed.{Moves, sys}
 use Rattle.pushdown.specs.Laws.{Laws, Decided}
 use Rattle.pushdown.proofs.Runs.{more-below, less-below, run-is, inside-is, returns-is, least, reached-is, depth-is}
-use Rattle.pushdown.proofs.Filling.{both?, via?, Any, any?, mem?}
+use Rattle.pushdown.proofs.Filling.{Any, any?, mem?}
 use Rattle.pushdown.proofs.Decide.{Finite, inside?, reached?, deep?}
 
 pub laws : {N R X : Type 0} (S : Sys N R X) → Laws S
@@ -48,9 +48,9 @@ finite {R} {X} M = record {
   nodes = upto (M .bound);
   same = ℕ-discrete;
   flow? = λ n m. mem? ℕ-discrete m (M .flows n);
-  call? = λ n m. via? (λ h. (h .0 .1, cast (λ i. (sym (h .2) i, h .0 .1)) (h .1))) (λ h. ((m, h .0), h .1, refl)) (any? (M .calls n) (λ p. p .0 ≡ m) (λ p. ℕ-discrete (p .0) m));
-  over? = λ n m b k. via? (λ h. (h .0 .1, h .2 .1 .0, cast (λ i. (sym (h .2 .0) i, h .0 .1)) (h .1), h .2 .1 .1, h .2 .1 .2)) (λ h. ((m, h .0), h .2, (refl, (h .1, h .3, h .4))))
-      (any? (M .calls n) (λ p. (p .0 ≡ m) × Any (M .exits b) (λ x. M .resume (p .1) x ≡ k)) (λ p. both? (ℕ-discrete (p .0) m) (any? (M .exits b) (λ x. M .resume (p .1) x ≡ k) (λ x. ℕ-discrete (M .resume (p .1) x) k))));
+  call? = λ n m. Dec·of-iff (λ h. (h .0 .1, cast (λ i. (sym (h .2) i, h .0 .1)) (h .1)), λ h. ((m, h .0), h .1, refl)) (any? (M .calls n) (λ p. p .0 ≡ m) (λ p. ℕ-discrete (p .0) m));
+  over? = λ n m b k. Dec·of-iff (λ h. (h .0 .1, h .2 .1 .0, cast (λ i. (sym (h .2 .0) i, h .0 .1)) (h .1), h .2 .1 .1, h .2 .1 .2), λ h. ((m, h .0), h .2, (refl, (h .1, h .3, h .4))))
+      (any? (M .calls n) (λ p. (p .0 ≡ m) × Any (M .exits b) (λ x. M .resume (p .1) x ≡ k)) (λ p. Dec·and (ℕ-discrete (p .0) m) (any? (M .exits b) (λ x. M .resume (p .1) x ≡ k) (λ x. ℕ-discrete (M .resume (p .1) x) k))));
   flow-in = λ {n} {m} k f. in-upto (M .bound) (M .flows-in n m (of-upto (M .bound) k) f);
   call-in = λ {n} {m} {r} k c. in-upto (M .bound) (M .calls-in n m r (of-upto (M .bound) k) c);
   over-in = λ {n} {m} {b} {r} {x} k c q y. in-upto (M .bound) (M .resume-in n m b r x (of-upto (M .bound) k) c (of-upto (M .bound) q) y);
