@@ -19,7 +19,7 @@ every-nth P [] n x o e = absurd (let z : _≡_ {A = ℕ} 0 1 = cc in omega arith
 every-nth P (y ∷ xs) zero x o e = let same : y ≡ x = cc in subst P same (o .0)
 every-nth P (y ∷ xs) (suc n) x o e = every-nth P xs n x (o .1) e
 
-split : {A : Type 0} (xs : List A) (n : ℕ) → n < length xs → (x : A) × (nth xs n ≡ some x) × (drop n xs ≡ x ∷ drop (suc n) xs)
+pub split : {A : Type 0} (xs : List A) (n : ℕ) → n < length xs → (x : A) × (nth xs n ≡ some x) × (drop n xs ≡ x ∷ drop (suc n) xs)
 split [] n h = absurd (omega arith)
 split (x ∷ xs) zero h = (x, refl, refl)
 split (x ∷ xs) (suc n) h = split xs n (omega arith)

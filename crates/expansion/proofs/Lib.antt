@@ -1,0 +1,10 @@
+pub mod Placed
+pub mod Written
+pub mod Stepping
+pub mod Walking
+pub mod Whole
+pub mod Counting
+pub mod Collecting
+pub mod Calling
+pub mod Surveying
+pub mod Gathering

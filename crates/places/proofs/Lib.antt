@@ -1,0 +1,5 @@
+pub mod Bridge
+pub mod Solved
+pub mod Bytes
+pub mod Telling
+pub mod Answering

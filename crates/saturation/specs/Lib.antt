@@ -1,0 +1,6 @@
+-- What the engine promises, and what its parts leave.
+pub mod Bits
+pub mod System
+pub mod Marks
+pub mod Visits
+pub mod Engine
