@@ -3,3 +3,4 @@ pub mod Solved
 pub mod Bytes
 pub mod Telling
 pub mod Answering
+pub mod Work

@@ -2,6 +2,7 @@
 // work in is lent. Relies on `program` for reading, on `expansion` for words, on `saturation` for the engine.
 ghost use lib.ListN.{length};
 ghost use Rattle.places.specs.Says.{KnownPost};
+ghost use Rattle.places.specs.Example.{Worked};
 use program::programs::read;
 use solving::tell;
 
@@ -36,3 +37,12 @@ pub fn know(program: &[u8], table: &mut [u8], work: &mut [u32]) -> Known
     tell(program, header, &mut table[..bytes], work);
     Known::Told
 }
+
+// The worked example of docs/FORMAT.md: two of its runs, and where their bytes stand, as theorems.
+pub fn worked_example()
+    ensures { λ _. ⌜ Worked ⌝ }
+{
+}
+
+#[cfg(test)]
+mod tests;
