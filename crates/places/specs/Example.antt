@@ -13,10 +13,13 @@ use Rattle.program.specs.Table.{total, spot}
 -- procedure; set the shared variable to not itself
 abbrev pub ring : Proc
 ring = record { own = 1; steps = open1 1 ∷ go (var 1) 3 ∷ call 1 ∷ set 0 (not1 (var 0)) ∷ [] }
+
 abbrev pub first : Proc
 first = record { own = 0; steps = call 1 ∷ [] }
+
 abbrev pub program : Prog
 program = record { shared = 1; procs = first ∷ ring ∷ [] }
+
 abbrev pub bytes : List ℕ
 bytes = 1 ∷ 0 ∷ 1 ∷ 3 ∷ 1 ∷ 1 ∷ 4 ∷ 1 ∷ 1 ∷ 2 ∷ 3 ∷ 1 ∷ 1 ∷ 3 ∷ 1 ∷ 0 ∷ 0 ∷ 2 ∷ 1 ∷ 0 ∷ []
 

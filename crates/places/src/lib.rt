@@ -41,8 +41,7 @@ pub fn know(program: &[u8], table: &mut [u8], work: &mut [u32]) -> Known
 // The worked example of docs/FORMAT.md: two of its runs, and where their bytes stand, as theorems.
 pub fn worked_example()
     ensures { λ _. ⌜ Worked ⌝ }
-{
-}
+{}
 
 #[cfg(test)]
 mod tests;

@@ -1,10 +1,13 @@
-// reach FILE tells of the program that FILE holds, or says in one sentence why it cannot. Relies on
-// `report` for all that is printed.
+// reach FILE tells of the program that FILE holds, and reach FILE PROCEDURE PLACE VALUES whether it can be
+// there with those values, or they say in one sentence why they cannot. Relies on `report` for all that is
+// printed.
 use report::arguments::file_argument;
+use report::arguments::query_arguments;
 use report::arguments::usage;
 use report::complaints::Complaint;
 use report::complaints::ComplaintDisplay;
 use report::complaints::ComplaintFromAlloc;
+use report::queries::answer;
 use report::refused::unreadable;
 use report::summaries::summary;
 use std::env;
@@ -19,9 +22,14 @@ fn run(rt: &LibcRuntime) -> Result<String, Complaint> {
         Err(_) => return Err(usage(heap, "The arguments are not UTF-8")),
     };
     let file = file_argument(heap, args.as_slice())?;
-    match fs::read(rt, file) {
-        Ok(text) => summary(heap, file, text.as_slice()),
-        Err(error) => Err(unreadable(heap, file, error.kind())),
+    let asked = query_arguments(heap, args.as_slice())?;
+    let text = match fs::read(rt, file) {
+        Ok(text) => text,
+        Err(error) => return Err(unreadable(heap, file, error.kind())),
+    };
+    match asked {
+        Some(query) => answer(heap, file, text.as_slice(), query),
+        None => summary(heap, file, text.as_slice()),
     }
 }
 

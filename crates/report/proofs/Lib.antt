@@ -1,2 +1,4 @@
 pub mod Walks
 pub mod Refusals
+pub mod Parts
+pub mod Telling

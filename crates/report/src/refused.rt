@@ -20,13 +20,13 @@ use syntax::decimal::Place;
 // A word of a text as a sentence shows it: a byte that cannot be printed is shown as `?`, and of a
 // long word only the beginning is shown.
 #[derive(Clone, Copy)]
-struct Word<'a>(&'a [u8]);
+pub(crate) struct Word<'a>(pub(crate) &'a [u8]);
 
 impl Word<'_> {
     const LONGEST: usize = 20;
 }
 
-impl fmt::Display for Word<'_> as WordDisplay {
+pub impl fmt::Display for Word<'_> as WordDisplay {
     fn fmt<W: fmt::Write>(&self, f: &mut fmt::Formatter<W>) -> fmt::Result {
         for b in self.0.iter().take(Self::LONGEST) {
             f.write_char(if b.is_ascii_graphic() {
