@@ -1,10 +1,9 @@
 -- Walking through the procedures of a program with its header at hand: each is read in its turn, and the
 -- node where it begins is the sum of the sizes before it.
-use mathlib.Core.Path.{_≡_, refl, sym, ap, subst, _∙_}
+use mathlib.Core.Path.{_≡_, sym, subst, _∙_}
 use mathlib.Core.List.{List, [], _∷_, _++_}
 use mathlib.Core.Option.{some}
-use Prim.Native.Nat.{ℕ, zero, suc, _+_, _*_, _^_, _<_, _≤_}
-use native.Mathlib.Numerals.{add-one}
+use Prim.Native.Nat.{ℕ, _+_, _*_, _^_, _<_, _≤_}
 use native.Mathlib.Omega.{arith}
 use lib.ListN.{length, set, drop, length-set}
 use lib.Seq.{getD-set-same, getD-set-other}
@@ -20,27 +19,9 @@ use Rattle.program.specs.Table.{before, size, total}
 use Rattle.program.specs.Walking.{Rest}
 use Rattle.program.proofs.Standing.{stands-right}
 use Rattle.program.proofs.Walk.{rest-first, rest-some, rest-next}
-use Rattle.program.proofs.Sizes.{total-small}
+use Rattle.program.proofs.Sizes.{total-small, before-none, before-next}
 use Rattle.expansion.specs.Procs.{StepsFrom}
 use Rattle.expansion.specs.Programs.{Headed, Begin}
-
-pub before-next : (k : ℕ) (ps : List Proc) (f : ℕ) (p : Proc) → nth ps f ≡ some p → before k ps (f + 1) ≡ before k ps f + size k p
-before-next k ps f p e = rw (add-one f) (go ps f e)
-  where
-    go : (ps : List Proc) (f : ℕ) → nth ps f ≡ some p → before k ps (suc f) ≡ before k ps f + size k p
-    go [] f e = absurd (let z : _≡_ {A = ℕ} 0 1 = cc in omega arith)
-    go (q ∷ []) zero e = let s : size k q ≡ size k p = cc in omega arith
-    go (q ∷ r ∷ ps) zero e = let s : size k q ≡ size k p = cc in omega arith
-    go (q ∷ ps) (suc f) e = omega (arith, go ps f e)
-
-pub before-le : (k : ℕ) (ps : List Proc) (f : ℕ) → before k ps f ≤ total k ps
-before-le k [] f = omega arith
-before-le k (p ∷ ps) zero = omega arith
-before-le k (p ∷ ps) (suc f) = omega (arith, before-le k ps f)
-
-pub before-all : (k : ℕ) (ps : List Proc) → before k ps (length ps) ≡ total k ps
-before-all k [] = refl
-before-all k (p ∷ ps) = ap (λ n. size k p + n) (before-all k ps)
 
 -- procedure f was read as d
 pub record Here (s : List ℕ) (g : Prog) (f : ℕ) (d : Procedure) : Type 0 where
@@ -82,13 +63,9 @@ pub record Listed (s : List ℕ) (h : Header) (bases : List ℕ) (f at b : ℕ) 
 pub listed-first : (s : List ℕ) (h : Header) (bases : List ℕ) → Listed s h bases 0 1 0
 listed-first s h bases = record {
   rest = λ g r. rest-first (r .reads);
-  base = λ g r. sym (none (g .shared) (g .procs));
+  base = λ g r. sym (before-none (g .shared) (g .procs));
   begins = λ g r l e k. absurd (omega arith);
 }
-  where
-    none : (k : ℕ) (ps : List Proc) → before k ps 0 ≡ 0
-    none k [] = refl
-    none k (p ∷ ps) = refl
 
 module _ {s : List ℕ} {h : Header} {bases : List ℕ} {f at b : ℕ} (l : Listed s h bases f at b) (here : f < h .procs) (d : Procedure) (q : ReadProc (h .shared) (h .procs) s at (Ok d)) where
   pub listed-next : f < length bases → (z : ℕ) → z ≡ (d .steps + 1) * 2 ^ (h .shared + d .own) → Listed s h (set bases f b) (f + 1) (d .end) (b + z)

@@ -18,7 +18,8 @@ use Rattle.expansion.specs.declared.nodes.Place.{Place}
 use Rattle.expansion.specs.Words.{Upto}
 use Rattle.expansion.specs.Procs.{ProcIs, ProcDone}
 use Rattle.expansion.specs.Programs.{Headed, Based, Expanded}
-use Rattle.expansion.proofs.Walking.{before-all, small, walk-next}
+use Rattle.program.proofs.Sizes.{before-all}
+use Rattle.expansion.proofs.Walking.{small, walk-next}
 
 -- the first f procedures are written
 pub record Sofar (s : List ℕ) (h : Header) (starts w : List ℕ) (f at : ℕ) : Type 0 where

@@ -2,8 +2,8 @@
 -- and its relation is that of the program's numbers.
 use mathlib.Core.Path.{_≡_, refl, sym, ap, subst, _∙_}
 use mathlib.Core.Logic.{inl, inr, ⊎-elim}
-use mathlib.Core.List.{List, [], _∷_}
-use mathlib.Core.Option.{some, none}
+use mathlib.Core.List.{List}
+use mathlib.Core.Option.{some}
 use Prim.Native.Nat.{ℕ, _+_, _-_, _*_, _%_, _^_, _<_, _≤_}
 use native.Mathlib.Nat.{mul-mod-left, zero-mod, zero-div, zero-mul, add-mul, one-mul}
 use native.Mathlib.Omega.{arith}
@@ -16,6 +16,7 @@ use Rattle.program.specs.Table.{before, size, total}
 use Rattle.program.specs.Numbers.{loc, Loc, Move, on, down, up, moveAt, MoveOf, numbered}
 use Rattle.program.specs.WellFormed.{Good}
 use Rattle.program.proofs.Spots.{before-inj, before-times}
+use Rattle.program.proofs.Sizes.{before-none}
 use Rattle.program.proofs.Kept.{nth-some, nth-lt}
 use Rattle.program.proofs.Targets.{loc-lt, moves-of, begins-at, flow-to, call-to, flow-in, call-in, resume-in}
 use Rattle.expansion.specs.declared.nodes.Node.{Node}
@@ -213,13 +214,9 @@ module _ (g : Prog) (starts w : List ℕ) (good : Good g) (few : g .shared ≤ 6
   pub starts-at : Starts w K T 0
   starts-at =
       let r = nth-some (g .procs) 0 (good .some-proc) in
-      let z : B 0 ≡ 0 = none (g .procs) in
+      let z : B 0 ≡ 0 = before-none (g .shared) (g .procs) in
       let at = begins-at g 0 (r .0) (r .1) 0 0 K-pos (omega (arith, z)) in
       record { within = loc-lt at; even = zero-mod K; own = proc-at at ∙ z }
-    where
-      none : (ps : List Proc) → before (g .shared) ps 0 ≡ 0
-      none [] = refl
-      none (p ∷ ps) = refl
 
   -- call places
   size-pos : (p : Proc) → 0 < size (g .shared) p

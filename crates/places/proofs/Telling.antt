@@ -19,7 +19,8 @@ use Rattle.program.proofs.Kept.{good, nth-some}
 use Rattle.program.proofs.Numbered.{can-iff}
 use Rattle.expansion.specs.Programs.{Headed, Based}
 use Rattle.expansion.specs.Sites.{steps}
-use Rattle.expansion.proofs.Walking.{before-next, before-le, small}
+use Rattle.program.proofs.Sizes.{before-none, before-next, before-le}
+use Rattle.expansion.proofs.Walking.{small}
 use Rattle.places.specs.Says.{Table}
 use Rattle.places.specs.Solving.{Tells, Written, Solved, Parts, Enough}
 
@@ -53,17 +54,13 @@ module _ {s : List ℕ} {h : Header} {table work : List ℕ} {g : Prog} (e : Eno
       record {
         some = omega (arith, r .reads .some);
         listed = count (h .procs) (λ f l. b g r f (omega arith) .0);
-        first = at 0 (omega (arith, r .reads .some)) ∙ none (g .procs);
+        first = at 0 (omega (arith, r .reads .some)) ∙ before-none (g .shared) (g .procs);
         order = λ f l.
             let q = nth-some (g .procs) f (omega arith) in
             omega (arith, at f (omega arith), at (f + 1) l, before-next (g .shared) (g .procs) f (q .0) (q .1));
         last = λ f l. omega (arith, at f l, before-le (g .shared) (g .procs) f, e .table-long);
       }
     where
-      none : (ps : List Proc) → before (g .shared) ps 0 ≡ 0
-      none [] = refl
-      none (p ∷ ps) = refl
-
       count : (c : ℕ) → ((f : ℕ) → f < c → f < length bases) → c ≤ length bases
       count zero f = omega arith
       count (suc c) f = let x = f c (omega arith) in omega arith

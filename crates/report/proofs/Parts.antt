@@ -1,40 +1,20 @@
 -- Walking to a procedure finds it, and the bytes of the table that come before it.
-use mathlib.Core.Path.{_≡_, refl, sym, subst, _∙_}
-use mathlib.Core.List.{List, [], _∷_}
-use mathlib.Core.Option.{some}
-use Prim.Native.Nat.{ℕ, zero, suc, _+_, _*_, _^_, _<_, _≤_}
-use native.Mathlib.Numerals.{add-one}
+use mathlib.Core.Path.{_≡_, sym, subst, _∙_}
+use mathlib.Core.List.{List}
+use Prim.Native.Nat.{ℕ, _+_, _*_, _^_, _<_, _≤_}
 use lib.ListN.{length}
 use native.Mathlib.Omega.{arith}
 use Rattle.std.specs.declared.result.Result.the-variants.{Ok}
 use Rattle.program.specs.declared.procedures.Procedure.{Procedure}
 use Rattle.program.specs.declared.programs.Header.{Header}
-use Rattle.program.specs.Program.{nth, Proc, Prog}
+use Rattle.program.specs.Program.{Prog}
 use Rattle.program.specs.Rows.{rowP, OkP, Reads}
 use Rattle.program.specs.Reading.{Nothing, ReadProc, ReadProgram, HeaderOf}
-use Rattle.program.specs.Table.{before, size, total}
+use Rattle.program.specs.Table.{before, size}
 use Rattle.program.specs.Walking.{Rest}
 use Rattle.program.proofs.Walk.{rest-first, rest-some, rest-next}
-use Rattle.program.proofs.Sizes.{total-small}
+use Rattle.program.proofs.Sizes.{total-small, before-none, before-next, before-le}
 use Rattle.report.specs.Queries.{Parted}
-
-before-none : (k : ℕ) (ps : List Proc) → before k ps 0 ≡ 0
-before-none k [] = refl
-before-none k (p ∷ ps) = refl
-
-before-next : (k : ℕ) (ps : List Proc) (f : ℕ) (p : Proc) → nth ps f ≡ some p → before k ps (f + 1) ≡ before k ps f + size k p
-before-next k ps f p e = rw (add-one f) (go ps f e)
-  where
-    go : (ps : List Proc) (f : ℕ) → nth ps f ≡ some p → before k ps (suc f) ≡ before k ps f + size k p
-    go [] f e = absurd (let z : _≡_ {A = ℕ} 0 1 = cc in omega arith)
-    go (q ∷ []) zero e = let s : size k q ≡ size k p = cc in omega arith
-    go (q ∷ r ∷ ps) zero e = let s : size k q ≡ size k p = cc in omega arith
-    go (q ∷ ps) (suc f) e = omega (arith, go ps f e)
-
-before-le : (k : ℕ) (ps : List Proc) (f : ℕ) → before k ps f ≤ total k ps
-before-le k [] f = omega arith
-before-le k (p ∷ ps) zero = omega arith
-before-le k (p ∷ ps) (suc f) = omega (arith, before-le k ps f)
 
 -- procedure f stands at `at`, and b bytes of the table come before it
 pub record Upto (s : List ℕ) (h : Header) (f at b : ℕ) : Type 0 where

@@ -1,5 +1,6 @@
 use native.Mathlib.Omega.{arith}
-use Rattle.expansion.proofs.Walking.{before-le, small, walk-some, listed-first, listed-next}
+use Rattle.program.proofs.Sizes.{before-le}
+use Rattle.expansion.proofs.Walking.{small, walk-some, listed-first, listed-next}
 use Rattle.expansion.proofs.programs.list_bases.Needs as need
 
 pub loop-f-holds : need.loop-f-holds
