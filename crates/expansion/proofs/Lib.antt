@@ -1,3 +1,4 @@
+-- The lemmas on the words of nodes, and on call places.
 pub mod Placed
 pub mod Written
 pub mod Stepping

@@ -1,3 +1,4 @@
+-- From the words to the table, and each answer of `know`.
 pub mod Bridge
 pub mod Solved
 pub mod Bytes

@@ -1,3 +1,4 @@
+-- The lemmas on programs: reading, then numbers, then the laws.
 pub mod Standing
 pub mod Prefix
 pub mod Sizes

@@ -1,3 +1,4 @@
+-- The lemmas of the theory, lowest first.
 pub mod Runs
 pub mod Filling
 pub mod Decide

@@ -1,4 +1,5 @@
-// The arguments of a program that takes one file, and with it a query or none. Relies on std alone.
+// The arguments of a program that takes one file, and with it a query or none. Relies on `queries` for
+// what the words of a query say.
 ghost use mathlib.Core.List.{_++_};
 ghost use lib.Chars.{codes};
 ghost use Rattle.report.specs.Arguments.{OneFile};

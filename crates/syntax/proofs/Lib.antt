@@ -1,3 +1,4 @@
+-- The lemmas on decimal text.
 pub mod Splitting
 pub mod Values
 pub mod Writing
