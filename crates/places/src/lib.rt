@@ -1,6 +1,8 @@
 // The calls that decide programs: `know` tells every place that a program can be at, `depth` how many procedures can
 // wait at once. The memory that they work in is lent. Relies on `program` for reading, on `expansion` for words, on
 // `saturation` and `ranking` for the engine.
+#![tactic(auto)]
+
 ghost use Rattle.std.specs.Prelude.{length};
 ghost use Rattle.places.specs.Says.{KnownPost, DeepPost};
 ghost use Rattle.places.specs.Example.{Worked};

@@ -1,6 +1,8 @@
 // Boolean programs with calls, as they stand in bytes: reading them exactly, and evaluating their
 // expressions where they stand. Definitions are in specs/, and docs/FORMAT.md says them in words.
 // This crate knows nothing of how reachability is decided.
+#![tactic(auto)]
+
 pub mod bytes;
 pub mod expressions;
 pub mod laws;

@@ -1,6 +1,8 @@
 // The theory of pushdown systems: what runs with calls can do, and how it is decided. Nothing here
 // computes; the theorems are proved over any types (proofs/), and the contracts below ask for them
 // at systems on numbers whose moves are listed, since a contract can't speak of all types at once.
+#![tactic(auto)]
+
 ghost use Rattle.pushdown.specs.Laws.{Laws, Decided};
 ghost use Rattle.pushdown.specs.Listed.{Moves, sys};
 ghost use Rattle.std.specs.Prelude.{ℕ};

@@ -4,6 +4,8 @@
 // Entries are taken level by level. Those that call nothing come first; an entry whose calls all lead to entries
 // taken before is of the next level. A call is removed once the entry that it calls is taken, and a count of the
 // calls left tells when an entry has none: so each call is looked at twice, however deep calls can be.
+#![tactic(auto)]
+
 ghost use Rattle.std.specs.Prelude.{◌≡◌, ◌*◌, ◌^◌, ◌≤◌, length, slice_index};
 ghost use Rattle.saturation.specs.System.{Starts, TellsInside};
 ghost use Rattle.ranking.specs.Levels.{Known};

@@ -1,6 +1,8 @@
 // reach FILE tells of the program that FILE holds, and reach FILE PROCEDURE PLACE VALUES whether it can be
 // there with those values, or they say in one sentence why they cannot. Relies on `report` for all that is
 // printed.
+#![tactic(auto)]
+
 use report::arguments::{file_argument, query_arguments, usage};
 use report::complaints::Complaint;
 use report::queries::answer;

@@ -1,6 +1,8 @@
 // What the programs of this repository print, as text made from their arguments and the text of
 // their files. Relies on `places` for deciding a program, on `program` for reading one and on `syntax` for
 // its byte form.
+#![tactic(auto)]
+
 pub mod arguments;
 pub mod complaints;
 pub mod memory;

@@ -1,4 +1,6 @@
 // The engine: decides by saturation what a pushdown system can do, with a set of bits for each node.
+#![tactic(auto)]
+
 ghost use Rattle.std.specs.Prelude.{◌≡◌, ◌*◌, ◌/◌, ◌<◌, length, slice_index};
 ghost use Rattle.saturation.specs.System.{Starts, Tells};
 ghost use Rattle.saturation.specs.Engine.{Ready, Drained};

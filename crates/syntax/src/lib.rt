@@ -1,2 +1,4 @@
 // How a program is written down as text. Relies on std alone.
+#![tactic(auto)]
+
 pub mod decimal;
