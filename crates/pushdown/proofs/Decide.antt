@@ -201,14 +201,14 @@ module _ {N R X : Type 0} (S : Sys N R X) (F : Finite S) where
   Ranked e = Mem e F.nodes → Height e
 
   ranked : (s : List N) → ((e : N) → Mem e s → Ranked e) → (e : N) → ¬ (Open s e) → Ranked e
-  ranked s d e h me = height e me (λ m c. let mm = calls_in me c in d m ((Dec.not_not (mem? F.same m s)).0 (λ k. h (m, mm, ((me, c), k)))) mm)
+  ranked s d e h me = height e me (λ m c. let mm = calls_in me c in d m ((Dec.not-not (mem? F.same m s)).0 (λ k. h (m, mm, ((me, c), k)))) mm)
 
   ranks : Full (λ s e. ¬ (Open s e)) (λ s e. Dec.not (open? s e)) Ranked ranked F.nodes []
   ranks = filled (λ s e. ¬ (Open s e)) (λ s e. Dec.not (open? s e)) Ranked ranked F.nodes
 
   endless : (d : ℕ) (e : N) → Mem e F.nodes → ¬ (Mem e ranks.out) → Chain S e d
   endless zero e me k = stop
-  endless (suc d) e me k = let h = (Dec.not_not (open? ranks.out e)).0 (λ q. k (ranks.closed e me q)) in link h.2.0.1 (endless d h.0 h.1 h.2.1)
+  endless (suc d) e me k = let h = (Dec.not-not (open? ranks.out e)).0 (λ q. k (ranks.closed e me q)) in link h.2.0.1 (endless d h.0 h.1 h.2.1)
 
   -- a greatest number of calls one within another, or chains of any length
   pub chains? : (root : N) → Mem root F.nodes → Height root ⊎ ((d : ℕ) → Chain S root d)
