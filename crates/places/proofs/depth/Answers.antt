@@ -3,8 +3,8 @@ use Rattle.std.proofs.Common.{◌≡◌, ℕ, arith}
 use Rattle.places.proofs.Answering.{unread, short, measured}
 use Rattle.places.proofs.depth.Goals as goal
 
-pub returns-in-default : goal.returns-in-default
-returns-in-default c = unread _ _ c.in-default.ensures.reads
+pub returns-in_default : goal.returns-in_default
+returns-in_default c = unread _ _ c.in_default.ensures.reads
 
 pub returns-then-header-work : goal.returns-then-header-work
 returns-then-header-work c = let r = c.in-Ok.ensures.reads in short r.1 r.2 _ c.if-header-work.true

@@ -2,8 +2,8 @@ use Rattle.std.proofs.Common.{◌≡◌, ◌++◌, length, drop, ap, arith, leng
 use Rattle.places.proofs.Answering.{no_program, few, full, told}
 use Rattle.places.proofs.know.Goals as goal
 
-pub returns-in-default : goal.returns-in-default
-returns-in-default c = no_program _ _ _ c.in-default.ensures.reads
+pub returns-in_default : goal.returns-in_default
+returns-in_default c = no_program _ _ _ c.in_default.ensures.reads
 
 pub returns-then-work-header : goal.returns-then-work-header
 returns-then-work-header c = let r = c.in-Ok.ensures.reads in few r.1 r.2 _ _ c.if-work-header.true

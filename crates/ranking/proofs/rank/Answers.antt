@@ -11,28 +11,28 @@ use Rattle.ranking.proofs.Chains.{ranked, unranked}
 use Rattle.ranking.proofs.rank.Goals as goal
 
 pub levels-init : goal.levels-init
-levels-init c = first_level c.requires.known c.args.sets.now c.count-calls.ensures c.first-level.ensures
+levels-init c = first_level c.requires.known c.args.sets.now c.count_calls.ensures c.first_level.ensures
 
-pub settle-level-requires : goal.settle-level-requires
-settle-level-requires c = record {
+pub settle_level-requires : goal.settle_level-requires
+settle_level-requires c = record {
   known = known_still c.levels.sets c.levels.counts c.fill.new.self c.requires.known (omega arith) (omega arith) (omega arith);
   counted = c.levels.invariant.counted;
   within = omega arith;
 }
 
-pub overflow-add-height : goal.overflow-add-height
-overflow-add-height c = omega (arith, c.levels.invariant.bound, total_le c.args.sets.now, c.requires.short)
+pub overflow_add-height : goal.overflow_add-height
+overflow_add-height c = omega (arith, c.levels.invariant.bound, total_le c.args.sets.now, c.requires.short)
 
 pub levels-smaller : goal.levels-smaller
-levels-smaller c = new_less c.settle-level.ensures.settles (λ i h. c.fill.ensures.clones i 0 (omega (arith, c.fill.ensures.len)) refl) (c.if-is-clear.ensures.no refl)
+levels-smaller c = new_less c.settle_level.ensures.settles (λ i h. c.fill.ensures.clones i 0 (omega (arith, c.fill.ensures.len)) refl) (c.if-is_clear.ensures.no refl)
 
 pub levels-preserved : goal.levels-preserved
 levels-preserved c =
     let y = c.args.system in
     let zero : (i : ℕ) → i < length c.fill.new.self → get_or c.fill.new.self i 0 ≡ 0 = λ i h. c.fill.ensures.clones i 0 (omega (arith, c.fill.ensures.len)) refl in
-    let t = c.settle-level.ensures.settles in
-    subst (AtLevel y c.args.procedures c.args.sets.now (c.levels.height + 1) c.settle-level.new.sets c.settle-level.new.counts) (sym c.copy-from-slice.ensures.after)
-    (next_level c.requires.known c.args.sets.now c.levels.invariant (c.if-has.ensures.no refl) (clear_off _ zero) t c.settle-level.ensures.gone (new_less t zero (c.if-is-clear.ensures.no refl)))
+    let t = c.settle_level.ensures.settles in
+    subst (AtLevel y c.args.procedures c.args.sets.now (c.levels.height + 1) c.settle_level.new.sets c.settle_level.new.counts) (sym c.copy_from_slice.ensures.after)
+    (next_level c.requires.known c.args.sets.now c.levels.invariant (c.if-has.ensures.no refl) (clear_off _ zero) t c.settle_level.ensures.gone (new_less t zero (c.if-is_clear.ensures.no refl)))
 
 pub returns-then-has : goal.returns-then-has
 returns-then-has c =
@@ -42,10 +42,10 @@ returns-then-has c =
     let h = c.levels.invariant.heights (root + 0) (0, 0, c.requires.known.grouped.some, fine.some, c.if-has.ensures.yes refl, refl) in
     ranked fine c.requires.starts c.args.sets.now c.requires.told c.levels.height (subst (λ e. Height y.graph.now y.shared y.nodes c.args.sets.now e c.levels.height) (add-zero root) h)
 
-pub returns-then-is-clear : goal.returns-then-is-clear
-returns-then-is-clear c =
+pub returns-then-is_clear : goal.returns-then-is_clear
+returns-then-is_clear c =
     let y = c.args.system in
     let root = get_or c.args.procedures.bases.now 0 0 in
     let zero : (i : ℕ) → i < length c.fill.new.self → get_or c.fill.new.self i 0 ≡ 0 = λ i h. c.fill.ensures.clones i 0 (omega (arith, c.fill.ensures.len)) refl in
-    let path : (d : ℕ) → Path y.graph.now y.shared y.nodes c.args.sets.now (root + 0) d = endless c.requires.known c.args.sets.now c.levels.invariant (c.if-has.ensures.no refl) (clear_off _ zero) c.settle-level.ensures.settles c.settle-level.ensures.gone (clear_off _ (c.if-is-clear.ensures.yes refl)) in
+    let path : (d : ℕ) → Path y.graph.now y.shared y.nodes c.args.sets.now (root + 0) d = endless c.requires.known c.args.sets.now c.levels.invariant (c.if-has.ensures.no refl) (clear_off _ zero) c.settle_level.ensures.settles c.settle_level.ensures.gone (clear_off _ (c.if-is_clear.ensures.yes refl)) in
     unranked c.requires.known.countable.fine c.requires.starts c.args.sets.now c.requires.told (λ d. subst (λ e. Path y.graph.now y.shared y.nodes c.args.sets.now e d) (add-zero root) (path d))

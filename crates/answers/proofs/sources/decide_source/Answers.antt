@@ -14,4 +14,4 @@ decided-tree t s (Ok d) q h = h (meaning t) q
 decided-tree t s (Err c) q h = tt
 
 pub returns : goal.returns
-returns c = decided-tree c.args.source.now.tree _ c.decide-bytes.result c.in-ok-bytes.ensures c.decide-bytes.ensures
+returns c = decided-tree c.args.source.now.tree _ c.decide_bytes.result c.in_ok-bytes.ensures c.decide_bytes.ensures

@@ -3,17 +3,17 @@ use Rattle.expansion.specs.Nodes.{PlaceDone}
 use Rattle.expansion.proofs.Written.{value_small, node_lt, place_more}
 use Rattle.expansion.proofs.places.expand_place.Goals as goal
 
-pub node-words-node-requires : goal.node-words-node-requires
-node-words-node-requires c = let h = c.requires in (h.0, h.1, h.2, h.3, h.4, value_small h.4 _ c.loop-values-test.true)
+pub node_words-node-requires : goal.node_words-node-requires
+node_words-node-requires c = let h = c.requires in (h.0, h.1, h.2, h.3, h.4, value_small h.4 _ c.loop-values-test.true)
 
-pub overflow-add-place : goal.overflow-add-place
-overflow-add-place c = let h = c.requires in omega (arith, node_lt h.4 _ c.loop-values-test.true, h.4.small)
+pub overflow_add-place : goal.overflow_add-place
+overflow_add-place c = let h = c.requires in omega (arith, node_lt h.4 _ c.loop-values-test.true, h.4.small)
 
-pub write-node-requires : goal.write-node-requires
-write-node-requires c = let h = c.requires in omega (arith, node_lt h.4 _ c.loop-values-test.true, h.5)
+pub write_node-requires : goal.write_node-requires
+write_node-requires c = let h = c.requires in omega (arith, node_lt h.4 _ c.loop-values-test.true, h.5)
 
 pub loop-values-preserved : goal.loop-values-preserved
-loop-values-preserved c = place_more _ _ _ _ _ _ _ _ _ c.loop-values-test.true c.node-words-node.ensures c.write-node.ensures c.loop-values.invariant
+loop-values-preserved c = place_more _ _ _ _ _ _ _ _ _ c.loop-values-test.true c.node_words-node.ensures c.write_node.ensures c.loop-values.invariant
 
 pub returns : goal.returns
 returns c =

@@ -7,7 +7,7 @@ pub loop-f-init : goal.loop-f-init
 loop-f-init c = sofar_first _ _ _ _
 
 pub unreachable-requires : goal.unreachable-requires
-unreachable-requires c = walk_some c.requires.some.1 _ _ (c.loop-f.invariant.rest c.requires.some.0 c.requires.some.1) c.loop-f-test.true c.in-default.ensures
+unreachable-requires c = walk_some c.requires.some.1 _ _ (c.loop-f.invariant.rest c.requires.some.0 c.requires.some.1) c.loop-f-test.true c.in_default.ensures
 
 pub returns : goal.returns
 returns c = sofar_all c.loop-f.invariant (omega arith)
@@ -18,11 +18,11 @@ bounds-bases-f c = (c.requires.based c.requires.some.0 c.requires.some.1 c.loop-
 pub bounds-bases-f-in-loop-f : goal.bounds-bases-f-in-loop-f
 bounds-bases-f-in-loop-f c = (c.requires.based c.requires.some.0 c.requires.some.1 c.loop-f.f (omega (arith, c.requires.some.1.header.procs))).0
 
-pub expand-procedure-requires : goal.expand-procedure-requires
-expand-procedure-requires c =
+pub expand_procedure-requires : goal.expand_procedure-requires
+expand_procedure-requires c =
     let h = c.requires.some in
     (h.0, c.loop-f.f, _, proc_is c.loop-f.invariant c.requires.based c.loop-f-test.true _ c.in-Ok.ensures _ _ (record { vars = refl; last = refl; procs = refl; base = refl; first = refl; width = c.values-width.ensures; shared = c.values-shared.ensures; sites = refl; until = refl }) h.0 h.1, omega (arith, h.3))
 
 pub loop-f-preserved : goal.loop-f-preserved
 loop-f-preserved c =
-    sofar_next c.loop-f.invariant c.requires.based c.loop-f-test.true _ c.in-Ok.ensures _ _ (record { vars = refl; last = refl; procs = refl; base = refl; first = refl; width = c.values-width.ensures; shared = c.values-shared.ensures; sites = refl; until = refl }) _ c.expand-procedure.ensures
+    sofar_next c.loop-f.invariant c.requires.based c.loop-f-test.true _ c.in-Ok.ensures _ _ (record { vars = refl; last = refl; procs = refl; base = refl; first = refl; width = c.values-width.ensures; shared = c.values-shared.ensures; sites = refl; until = refl }) _ c.expand_procedure.ensures

@@ -12,7 +12,7 @@ rank-requires c =
     let k = c.values.ensures in
     let n = x.headed.header in
     let small = laws.small_table c.requires.0 c.requires.1 x.headed.reads in
-    let parts = c.split-at-mut-entries.ensures in
+    let parts = c.split_at_mut-entries.ensures in
     record {
       known = record {
         countable = record { fine = fine_here x _ k; aligned = aligned_here x _ k; small = omega (arith, n.table, small); sets_long = omega (arith, parts.front-len); counts_long = omega (arith, parts.back_len, x.sets_long, n.table) };

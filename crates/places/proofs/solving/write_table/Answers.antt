@@ -10,4 +10,4 @@ loop-f-preserved c =
     parted_more _ _ c.loop-f.table _ _ _ _ c.if-f-procs.end (subst (Parts c.args.bases.now c.args.procs) (sym long) c.requires.parts) c.loop-f.invariant c.loop-f-test.true
     (λ l. elim c.if-f-procs.branch [ then-f-procs w ↦ w.end-is | else-f-procs w ↦ absurd (omega arith) ])
     (λ l. elim c.if-f-procs.branch [ then-f-procs w ↦ absurd (omega arith) | else-f-procs w ↦ w.end-is ∙ sym long ])
-    c.write-part.auto.part c.write-part.ensures
+    c.write_part.auto.part c.write_part.ensures

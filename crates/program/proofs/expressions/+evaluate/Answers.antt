@@ -8,8 +8,8 @@ bounds-bytes-at t c = has_some _ _ _ c.requires
 pub bounds-bytes-at-in-1 : goal.bounds-bytes-at-in-1
 bounds-bytes-at-in-1 t c = (has_var _ _ _ c.requires c.in-1.is).0
 
-pub overflow-shr-result : goal.overflow-shr-result
-overflow-shr-result t c = (has_var _ _ _ c.requires c.in-1.is).1
+pub overflow_shr-result : goal.overflow_shr-result
+overflow_shr-result t c = (has_var _ _ _ c.requires c.in-1.is).1
 
 pub evaluate-part-requires : goal.evaluate-part-requires
 evaluate-part-requires t c = (omega (arith, has_some _ _ _ c.requires), has_not _ _ _ c.requires c.in-2.is)

@@ -5,13 +5,13 @@ use Rattle.program.proofs.procedures.read_steps.Goals as goal
 
 pub loop-i-preserved : goal.loop-i-preserved
 loop-i-preserved c =
-    let p = c.in-ok-found.ensures in
-    (p.0.stands.within, λ r q. c.loop-i.invariant.1 r (steps_more _ _ (c.args.count - c.loop-i.-i) (c.args.count - (c.loop-i.-i + 1)) _ _ r (omega arith) p q))
+    let p = c.in_ok-found.ensures in
+    (p.0.stands.within, λ r q. c.loop-i.invariant.1 r (steps_more _ _ (c.args.count - c.loop-i._i) (c.args.count - (c.loop-i._i + 1)) _ _ r (omega arith) p q))
 
-pub returns-in-err-found : goal.returns-in-err-found
-returns-in-err-found c =
-    let p = err_from_is_err_and c.from-residual.result c.from-residual.ensures.1 in
-    rw p.1 (c.loop-i.invariant.1 (Err p.0) (no_steps _ _ (c.args.count - c.loop-i.-i) c.loop-i.end (omega arith) c.in-err-found.ensures))
+pub returns-in_err-found : goal.returns-in_err-found
+returns-in_err-found c =
+    let p = err_from_is_err_and c.from_residual.result c.from_residual.ensures.1 in
+    rw p.1 (c.loop-i.invariant.1 (Err p.0) (no_steps _ _ (c.args.count - c.loop-i._i) c.loop-i.end (omega arith) c.in_err-found.ensures))
 
 pub returns : goal.returns
 returns c = c.loop-i.invariant.1 (Ok _) (steps_done _ _ _ _ (omega arith) c.loop-i.invariant.0)

@@ -5,4 +5,4 @@ use Rattle.program.proofs.procedures.read_steps.Given as goal
 
 -- what the rest answers, the whole answers
 abbrev pub invariant-loop-i : goal.invariant-loop-i
-invariant-loop-i l = (l.end ≤ length l.bytes) × ((r : Result ℕ Refusal) → ReadSteps l.scope l.bytes (l.count - l.-i) l.end r → ReadSteps l.scope l.bytes l.count l.at r)
+invariant-loop-i l = (l.end ≤ length l.bytes) × ((r : Result ℕ Refusal) → ReadSteps l.scope l.bytes (l.count - l._i) l.end r → ReadSteps l.scope l.bytes l.count l.at r)

@@ -13,9 +13,9 @@ pub bounds-counts-base : goal.bounds-counts-base
 unfolding proc
 bounds-counts-base c = omega (arith, c.requires.countable.fine.procs c.args.n c.requires.within)
 
-pub overflow-add-counts-then-has : goal.overflow-add-counts-then-has
+pub overflow_add-counts-then-has : goal.overflow_add-counts-then-has
 unfolding proc
-overflow-add-counts-then-has c = omega (arith, counts_le (c.loop-x.invariant.rest c.args.n c.loop-x.x c.requires.within c.loop-x-test.true (omega arith)))
+overflow_add-counts-then-has c = omega (arith, counts_le (c.loop-x.invariant.rest c.args.n c.loop-x.x c.requires.within c.loop-x-test.true (omega arith)))
 
 pub bounds-counts-base-then-has : goal.bounds-counts-base-then-has
 unfolding proc

@@ -14,9 +14,9 @@ loop-n-init c = counted_none _ _ _ _ _ (λ i. elim (cases_lt i (length c.args.co
   | inr h ↦ get_or_past c.fill.new.self i 0 (omega arith)
 ])
 
-pub count-call-requires : goal.count-call-requires
+pub count_call-requires : goal.count_call-requires
 unfolding kind
-count-call-requires c =
+count_call-requires c =
     let p = c.requires in
     record {
       countable = record { fine = p.fine; aligned = p.aligned; small = p.small; sets_long = p.sets_long; counts_long = omega arith };
@@ -28,7 +28,7 @@ count-call-requires c =
 pub loop-n-preserved : goal.loop-n-preserved
 unfolding kind
 loop-n-preserved c = elim c.if-system-n-eq1.branch [
-  | then-system-n-eq1 w ↦ simp w.counts-is w.count-call.ensures
+  | then-system-n-eq1 w ↦ simp w.counts-is w.count_call.ensures
   | else-system-n-eq1 w ↦ simp w.counts-is (counted_skip _ _ _ _ _ _ w.if-system-n-eq1.false c.loop-n.invariant)
 ]
 

@@ -8,8 +8,8 @@ use Rattle.ranking.proofs.levels.settle_call.Goals.{then-has, else-has}
 pub loop-x-init : goal.loop-x-init
 loop-x-init c = (settles_none c.requires.counted, λ y h. absurd (omega arith))
 
-pub settle-entry-requires : goal.settle-entry-requires
-settle-entry-requires c = record {
+pub settle_entry-requires : goal.settle_entry-requires
+settle_entry-requires c = record {
   known = known_still _ _ _ c.requires.known c.loop-x.auto.sets c.loop-x.auto.counts c.loop-x.auto.next;
   counted = c.loop-x.invariant.0.counted;
   within = (c.requires.within, c.loop-x-test.true);
@@ -20,8 +20,8 @@ settle-entry-requires c = record {
 pub loop-x-preserved : goal.loop-x-preserved
 loop-x-preserved c = elim c.if-has.branch [
   | then-has w ↦ simp (w.sets-is, w.counts-is, w.next_is) (
-    settles_then c.loop-x.invariant.0 w.settle-entry.ensures.settles,
-    below_more (λ y. On w.settle-entry.new.sets c.args.n y → ⊥) c.loop-x.x (λ y h q. c.loop-x.invariant.1 y h (w.settle-entry.ensures.settles.fewer _ _ q)) w.settle-entry.ensures.gone,
+    settles_then c.loop-x.invariant.0 w.settle_entry.ensures.settles,
+    below_more (λ y. On w.settle_entry.new.sets c.args.n y → ⊥) c.loop-x.x (λ y h q. c.loop-x.invariant.1 y h (w.settle_entry.ensures.settles.fewer _ _ q)) w.settle_entry.ensures.gone,
   )
   | else-has w ↦ simp (w.sets-is, w.counts-is, w.next_is) (c.loop-x.invariant.0, below_more (λ y. On c.loop-x.sets c.args.n y → ⊥) c.loop-x.x c.loop-x.invariant.1 (w.if-has.ensures.no refl))
 ]

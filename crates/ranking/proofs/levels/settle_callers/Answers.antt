@@ -8,8 +8,8 @@ use Rattle.ranking.proofs.levels.settle_callers.Goals as goal
 pub loop-site-init : goal.loop-site-init
 loop-site-init c = (settles_none c.requires.counted, λ s h l. absurd (omega arith))
 
-pub settle-place-requires : goal.settle-place-requires
-settle-place-requires c = record {
+pub settle_place-requires : goal.settle_place-requires
+settle_place-requires c = record {
   known = known_still _ _ _ c.requires.known c.loop-site.auto.sets c.loop-site.auto.counts c.loop-site.auto.next;
   counted = c.loop-site.invariant.0.counted;
   entry = c.requires.entry;
@@ -20,9 +20,9 @@ pub loop-site-preserved : goal.loop-site-preserved
 loop-site-preserved c =
     let y = c.args.system in
     let d = get_or c.args.procedures.bases.now c.args.begun.procedure 0 + c.args.begun.value in
-    let e = c.settle-place.ensures in (
+    let e = c.settle_place.ensures in (
       settles_then c.loop-site.invariant.0 e.settles,
-      below_more (λ s. get_or c.args.procedures.starts.now c.args.begun.procedure 0 ≤ s → Taken y.graph.now y.shared y.nodes c.settle-place.new.sets (λ n. InPlace y.graph.now y.shared y.sites.now d s n)) c.loop-site.site
+      below_more (λ s. get_or c.args.procedures.starts.now c.args.begun.procedure 0 ≤ s → Taken y.graph.now y.shared y.nodes c.settle_place.new.sets (λ n. InPlace y.graph.now y.shared y.sites.now d s n)) c.loop-site.site
           (λ s h l n x hn kn q hx o. c.loop-site.invariant.1 s h l n x hn kn q hx (e.settles.fewer n x o)) (λ l. e.gone),
     )
 

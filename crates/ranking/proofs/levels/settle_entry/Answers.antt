@@ -8,22 +8,22 @@ pub bounds-counts-entry : goal.bounds-counts-entry
 unfolding proc
 bounds-counts-entry c = in_counts c.requires.known c.requires.counted c.requires.within.0 c.requires.within.1 c.requires.is c.requires.has
 
-pub overflow-sub-left : goal.overflow-sub-left
+pub overflow_sub-left : goal.overflow_sub-left
 unfolding proc
-overflow-sub-left c = counts_pos c.requires.known c.requires.counted c.requires.within.0 c.requires.within.1 c.requires.is c.requires.has c.remove.ensures
+overflow_sub-left c = counts_pos c.requires.known c.requires.counted c.requires.within.0 c.requires.within.1 c.requires.is c.requires.has c.remove.ensures
 
 pub bounds-counts-entry-2 : goal.bounds-counts-entry-2
 unfolding proc
 bounds-counts-entry-2 c = in_counts c.requires.known c.requires.counted c.requires.within.0 c.requires.within.1 c.requires.is c.requires.has
 
-pub procedure-at-requires : goal.procedure-at-requires
+pub procedure_at-requires : goal.procedure_at-requires
 unfolding proc
-procedure-at-requires c = record { listed = c.requires.known.grouped.based; there = c.requires.known.grouped.owner c.args.n c.requires.within.0 }
+procedure_at-requires c = record { listed = c.requires.known.grouped.based; there = c.requires.known.grouped.owner c.args.n c.requires.within.0 }
 
 pub returns-then-left-eq0 : goal.returns-then-left-eq0
 unfolding proc
 returns-then-left-eq0 c = record {
-  settles = settles_last c.requires.known c.requires.counted c.requires.within.0 c.requires.within.1 c.requires.is c.requires.has c.remove.ensures _ refl c.if-left-eq0.true c.procedure-at.result c.procedure-at.ensures.within c.procedure-at.ensures.is c.add.ensures.added c.add.ensures.grew;
+  settles = settles_last c.requires.known c.requires.counted c.requires.within.0 c.requires.within.1 c.requires.is c.requires.has c.remove.ensures _ refl c.if-left-eq0.true c.procedure_at.result c.procedure_at.ensures.within c.procedure_at.ensures.is c.add.ensures.added c.add.ensures.grew;
   gone = c.remove.ensures.gone;
 }
 

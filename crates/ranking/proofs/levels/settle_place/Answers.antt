@@ -28,9 +28,9 @@ pub calls-requires : goal.calls-requires
 unfolding site_begin second
 calls-requires c = let a = c.requires.known.grouped.sites c.args.site c.requires.listed in omega (arith, (c.requires.known.countable.fine.callers _ a.0 a.1).0, c.requires.known.countable.fine.long)
 
-pub settle-call-requires : goal.settle-call-requires
+pub settle_call-requires : goal.settle_call-requires
 unfolding site_begin second
-settle-call-requires c = let a = c.requires.known.grouped.sites c.args.site c.requires.listed in record {
+settle_call-requires c = let a = c.requires.known.grouped.sites c.args.site c.requires.listed in record {
   known = known_still _ _ _ c.requires.known c.loop-n.auto.sets c.loop-n.auto.counts c.loop-n.auto.next;
   counted = c.loop-n.invariant.settles.counted;
   within = omega (arith, (c.requires.known.countable.fine.callers _ a.0 a.1).0);
@@ -44,7 +44,7 @@ loop-n-preserved c =
     let even = base_even c.requires.known _ c.requires.entry.0 in
     let small = mod_below (get_or y.sites.now c.args.site 0 + c.args.begun.value) y.shared fine.some in
     elim c.if-calls.branch [
-      | then-calls w ↦ simp (w.sets-is, w.counts-is, w.next_is) (place_call y c.args.procedures fine _ _ _ even small c.loop-n.invariant (w.if-calls.ensures.yes refl).1 w.settle-call.ensures.settles w.settle-call.ensures.gone)
+      | then-calls w ↦ simp (w.sets-is, w.counts-is, w.next_is) (place_call y c.args.procedures fine _ _ _ even small c.loop-n.invariant (w.if-calls.ensures.yes refl).1 w.settle_call.ensures.settles w.settle_call.ensures.gone)
       | else-calls w ↦ simp (w.sets-is, w.counts-is, w.next_is) (place_other y c.args.procedures fine _ _ _ even small c.loop-n.invariant (w.if-calls.ensures.no refl))
     ]
 

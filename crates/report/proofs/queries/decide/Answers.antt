@@ -13,6 +13,6 @@ returns c =
     let told = known.says in
     let same = known.laws.one_program c.args.bytes.now told.0 c.requires.0 told.2 c.requires.1 in
     let size : c.args.header.table ≡ length told.1 = c.requires.2.table ∙ sym (told.3.long ∙ ap (λ g. total g.shared g.procs) same) in
-    let long : c.in-ok-table.table.len ≡ c.args.header.table = search rules in
-    let room : c.in-ok-table.table.len ≤ length c.know.new.table = search rules in
-    (told.0, told.2, subst (Table told.0) (whole c.in-ok-table.table.len c.know.new.table _ told.1 room (long ∙ size) told.4) told.3)
+    let long : c.in_ok-table.table.len ≡ c.args.header.table = search rules in
+    let room : c.in_ok-table.table.len ≤ length c.know.new.table = search rules in
+    (told.0, told.2, subst (Table told.0) (whole c.in_ok-table.table.len c.know.new.table _ told.1 room (long ∙ size) told.4) told.3)

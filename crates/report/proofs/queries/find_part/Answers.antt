@@ -6,22 +6,22 @@ pub loop-i-init : goal.loop-i-init
 loop-i-init c = upto_first _ _
 
 pub unreachable-requires : goal.unreachable-requires
-unreachable-requires c = upto_some c.loop-i.invariant c.requires.reads (omega (arith, c.loop-i-test.true, c.requires.there)) c.in-default.ensures
+unreachable-requires c = upto_some c.loop-i.invariant c.requires.reads (omega (arith, c.loop-i-test.true, c.requires.there)) c.in_default.ensures
 
-pub overflow-add-base : goal.overflow-add-base
-overflow-add-base c = omega (arith, upto_small c.loop-i.invariant c.requires.reads, c.table-size-base.ensures.small)
+pub overflow_add-base : goal.overflow_add-base
+overflow_add-base c = omega (arith, upto_small c.loop-i.invariant c.requires.reads, c.table_size-base.ensures.small)
 
 pub loop-i-preserved : goal.loop-i-preserved
-loop-i-preserved c = upto_next c.loop-i.invariant c.requires.reads (omega (arith, c.loop-i-test.true, c.requires.there)) _ c.in-Ok.ensures _ c.table-size-base.ensures.is
+loop-i-preserved c = upto_next c.loop-i.invariant c.requires.reads (omega (arith, c.loop-i-test.true, c.requires.there)) _ c.in-Ok.ensures _ c.table_size-base.ensures.is
 
-pub unreachable-requires-in-default-read-procedure : goal.unreachable-requires-in-default-read-procedure
-unreachable-requires-in-default-read-procedure c =
-    let e : c.loop-i.-i ≡ c.args.number = omega arith in
+pub unreachable-requires-in_default-read_procedure : goal.unreachable-requires-in_default-read_procedure
+unreachable-requires-in_default-read_procedure c =
+    let e : c.loop-i._i ≡ c.args.number = omega arith in
     let l = subst (λ f. Upto c.args.bytes.now c.args.header f c.loop-i.at c.loop-i.base) e c.loop-i.invariant in
-    upto_some l c.requires.reads c.requires.there c.in-default-read-procedure.ensures
+    upto_some l c.requires.reads c.requires.there c.in_default-read_procedure.ensures
 
 pub returns : goal.returns
 returns c =
-    let e : c.loop-i.-i ≡ c.args.number = omega arith in
+    let e : c.loop-i._i ≡ c.args.number = omega arith in
     let l = subst (λ f. Upto c.args.bytes.now c.args.header f c.loop-i.at c.loop-i.base) e c.loop-i.invariant in
-    parted l c.requires.reads c.requires.there _ c.in-Ok-read-procedure.ensures
+    parted l c.requires.reads c.requires.there _ c.in-Ok-read_procedure.ensures

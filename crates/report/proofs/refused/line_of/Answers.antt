@@ -12,5 +12,5 @@ last_or xs (Some x) h = h.3.1 1
 pub returns-else-at-lines : goal.returns-else-at-lines
 returns-else-at-lines c = record {
   inside = λ h. absurd (omega arith);
-  past = λ h. c.unwrap-or.ensures ∙ ap (λ o. unwrap_or o 1) c.copied.ensures ∙ last_or c.args.lines.now c.last.result c.last.ensures.item;
+  past = λ h. c.unwrap_or.ensures ∙ ap (λ o. unwrap_or o 1) c.copied.ensures ∙ last_or c.args.lines.now c.last.result c.last.ensures.item;
 }

@@ -3,4 +3,4 @@ use Rattle.report.proofs.Walks.{Sofar}
 use Rattle.report.proofs.summaries.procedures.Given as goal
 
 abbrev pub invariant-loop-i : goal.invariant-loop-i
-invariant-loop-i l = Sofar l.bytes l.header l.-i l.at (vec_items l.all)
+invariant-loop-i l = Sofar l.bytes l.header l._i l.at (vec_items l.all)

@@ -10,11 +10,11 @@ loop-s-init c = sites_none c.args.system.graph.now c.args.system.sites.now c.arg
 
 pub loop-s-preserved : goal.loop-s-preserved
 unfolding site_begin second
-loop-s-preserved c = sites_more c.loop-s.s c.loop-s.invariant c.revisit-place.ensures
+loop-s-preserved c = sites_more c.loop-s.s c.loop-s.invariant c.revisit_place.ensures
 
-pub revisit-place-requires : goal.revisit-place-requires
+pub revisit_place-requires : goal.revisit_place-requires
 unfolding site_begin second
-revisit-place-requires c =
+revisit_place-requires c =
     let b : c.loop-s.s < length c.args.system.sites.now = omega (arith, (c.requires.ready.sited.lists c.args.q c.requires.within c.requires.is).1) in
     let a = c.requires.ready.sited.calls c.loop-s.s b in
     let f = c.requires.ready.fine.callers _ a.0 a.1 in record {

@@ -3,14 +3,14 @@ use Rattle.std.proofs.Common.{arith}
 use Rattle.saturation.specs.System.{kind}
 use Rattle.saturation.proofs.visits.visit.Goals as goal
 
-pub visit-flow-requires : goal.visit-flow-requires
+pub visit_flow-requires : goal.visit_flow-requires
 unfolding kind
-visit-flow-requires c = record { ready = c.requires.ready; within = c.requires.within; is = omega arith }
+visit_flow-requires c = record { ready = c.requires.ready; within = c.requires.within; is = omega arith }
 
-pub visit-call-requires : goal.visit-call-requires
+pub visit_call-requires : goal.visit_call-requires
 unfolding kind
-visit-call-requires c = record { ready = c.requires.ready; within = c.requires.within; is = omega arith }
+visit_call-requires c = record { ready = c.requires.ready; within = c.requires.within; is = omega arith }
 
-pub visit-return-requires : goal.visit-return-requires
+pub visit_return-requires : goal.visit_return-requires
 unfolding kind
-visit-return-requires c = record { ready = c.requires.ready; within = c.requires.within; is = omega (arith, c.requires.ready.fine.kinds c.args.n c.requires.within) }
+visit_return-requires c = record { ready = c.requires.ready; within = c.requires.within; is = omega (arith, c.requires.ready.fine.kinds c.args.n c.requires.within) }

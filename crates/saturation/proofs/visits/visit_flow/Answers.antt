@@ -4,16 +4,16 @@ use Rattle.saturation.specs.System.{first, second}
 use Rattle.saturation.proofs.Visiting.{visit_flow}
 use Rattle.saturation.proofs.visits.visit_flow.Goals as goal
 
-pub propagate-new-first-requires : goal.propagate-new-first-requires
+pub propagate-new_first-requires : goal.propagate-new_first-requires
 unfolding first
-propagate-new-first-requires c = let f = c.requires.ready.fine.flows c.args.n c.requires.within c.requires.is in (omega arith, (omega arith, omega arith))
+propagate-new_first-requires c = let f = c.requires.ready.fine.flows c.args.n c.requires.within c.requires.is in (omega arith, (omega arith, omega arith))
 
-pub propagate-new-second-requires : goal.propagate-new-second-requires
+pub propagate-new_second-requires : goal.propagate-new_second-requires
 unfolding second
-propagate-new-second-requires c = let f = c.requires.ready.fine.flows c.args.n c.requires.within c.requires.is in (omega arith, (omega arith, omega arith))
+propagate-new_second-requires c = let f = c.requires.ready.fine.flows c.args.n c.requires.within c.requires.is in (omega arith, (omega arith, omega arith))
 
 pub returns : goal.returns
 unfolding first second
 returns c = visit_flow c.requires.ready.fine c.args.n c.requires.within c.requires.is
-    c.propagate-new-first.ensures.joined c.propagate-new-first.ensures.grew c.propagate-new-first.ensures.marked
-    c.propagate-new-second.ensures.joined c.propagate-new-second.ensures.grew c.propagate-new-second.ensures.marked
+    c.propagate-new_first.ensures.joined c.propagate-new_first.ensures.grew c.propagate-new_first.ensures.marked
+    c.propagate-new_second.ensures.joined c.propagate-new_second.ensures.grew c.propagate-new_second.ensures.marked

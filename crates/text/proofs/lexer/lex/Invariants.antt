@@ -4,7 +4,7 @@ use Rattle.text.proofs.lexer.lex.Given as goal
 -- a line begins behind a byte, and so does each token but the last
 abbrev pub invariant-loop-at : goal.invariant-loop-at
 invariant-loop-at l =
-    (l.at ≤ length l.text) × (l.line ≤ l.at + 1) × (l.line-start ≤ l.at) × (vec_len l.tokens ≤ l.at)
+    (l.at ≤ length l.text) × (l.line ≤ l.at + 1) × (l.line_start ≤ l.at) × (vec_len l.tokens ≤ l.at)
 
 abbrev pub decreases-loop-at : goal.decreases-loop-at
 decreases-loop-at l = length l.initial.text - l.at
