@@ -19,11 +19,11 @@ settle_entry-requires c = record {
 
 pub loop-x-preserved : goal.loop-x-preserved
 loop-x-preserved c = elim c.if-has.branch [
-  | then-has w ↦ simp (w.sets-is, w.counts-is, w.next_is) (
+  | then-has w ↦ simp (w.sets-is, w.counts-is, w.next-is) (
     settles_then c.loop-x.invariant.0 w.settle_entry.ensures.settles,
     below_more (λ y. On w.settle_entry.new.sets c.args.n y → ⊥) c.loop-x.x (λ y h q. c.loop-x.invariant.1 y h (w.settle_entry.ensures.settles.fewer _ _ q)) w.settle_entry.ensures.gone,
   )
-  | else-has w ↦ simp (w.sets-is, w.counts-is, w.next_is) (c.loop-x.invariant.0, below_more (λ y. On c.loop-x.sets c.args.n y → ⊥) c.loop-x.x c.loop-x.invariant.1 (w.if-has.ensures.no refl))
+  | else-has w ↦ simp (w.sets-is, w.counts-is, w.next-is) (c.loop-x.invariant.0, below_more (λ y. On c.loop-x.sets c.args.n y → ⊥) c.loop-x.x c.loop-x.invariant.1 (w.if-has.ensures.no refl))
 ]
 
 pub returns : goal.returns

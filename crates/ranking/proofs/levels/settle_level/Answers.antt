@@ -20,12 +20,12 @@ loop-f-preserved c =
     let y = c.args.system in
     let p = c.args.procedures in
     elim c.if-not-is_empty.branch [
-      | then-not-is_empty w ↦ simp (w.sets-is, w.counts-is, w.next_is) (
+      | then-not-is_empty w ↦ simp (w.sets-is, w.counts-is, w.next-is) (
         settles_then c.loop-f.invariant.0 w.settle_procedure.ensures.settles,
         below_more (ProcedureDone y p c.args.level.now w.settle_procedure.new.sets) c.loop-f.f
             (λ h l x hx q n z hn kn e hz o. c.loop-f.invariant.1 h l x hx q n z hn kn e hz (w.settle_procedure.ensures.settles.fewer n z o)) w.settle_procedure.ensures.gone,
       )
-      | else-not-is_empty w ↦ simp (w.sets-is, w.counts-is, w.next_is) (
+      | else-not-is_empty w ↦ simp (w.sets-is, w.counts-is, w.next-is) (
         c.loop-f.invariant.0,
         below_more (ProcedureDone y p c.args.level.now c.loop-f.sets) c.loop-f.f c.loop-f.invariant.1 (λ x hx q. absurd (w.if-not-is_empty.ensures.yes refl x (omega (arith, c.requires.known.countable.fine.few)) q)),
       )

@@ -44,8 +44,8 @@ loop-n-preserved c =
     let even = base_even c.requires.known _ c.requires.entry.0 in
     let small = mod_below (get_or y.sites.now c.args.site 0 + c.args.begun.value) y.shared fine.some in
     elim c.if-calls.branch [
-      | then-calls w ↦ simp (w.sets-is, w.counts-is, w.next_is) (place_call y c.args.procedures fine _ _ _ even small c.loop-n.invariant (w.if-calls.ensures.yes refl).1 w.settle_call.ensures.settles w.settle_call.ensures.gone)
-      | else-calls w ↦ simp (w.sets-is, w.counts-is, w.next_is) (place_other y c.args.procedures fine _ _ _ even small c.loop-n.invariant (w.if-calls.ensures.no refl))
+      | then-calls w ↦ simp (w.sets-is, w.counts-is, w.next-is) (place_call y c.args.procedures fine _ _ _ even small c.loop-n.invariant (w.if-calls.ensures.yes refl).1 w.settle_call.ensures.settles w.settle_call.ensures.gone)
+      | else-calls w ↦ simp (w.sets-is, w.counts-is, w.next-is) (place_other y c.args.procedures fine _ _ _ even small c.loop-n.invariant (w.if-calls.ensures.no refl))
     ]
 
 pub returns : goal.returns

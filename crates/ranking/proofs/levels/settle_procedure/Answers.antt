@@ -22,12 +22,12 @@ loop-value-preserved c =
     let b = get_or c.args.procedures.bases.now c.args.f 0 in
     let v = c.loop-value.value in
     elim c.if-has.branch [
-      | then-has w ↦ simp (w.sets-is, w.counts-is, w.next_is) (
+      | then-has w ↦ simp (w.sets-is, w.counts-is, w.next-is) (
         settles_then c.loop-value.invariant.0 (settles_of (λ d e. (c.args.f, v, c.requires.within.0, c.loop-value-test.true, w.if-has.ensures.yes refl, e)) w.settle_callers.ensures.settles),
         below_more (λ x. On c.args.level.now c.args.f x → Done y.graph.now y.shared y.nodes w.settle_callers.new.sets (b + x)) v
             (λ x h q n z hn kn e hz o. c.loop-value.invariant.1 x h q n z hn kn e hz (w.settle_callers.ensures.settles.fewer n z o)) (λ q. w.settle_callers.ensures.gone),
       )
-      | else-has w ↦ simp (w.sets-is, w.counts-is, w.next_is) (
+      | else-has w ↦ simp (w.sets-is, w.counts-is, w.next-is) (
         c.loop-value.invariant.0,
         below_more (λ x. On c.args.level.now c.args.f x → Done y.graph.now y.shared y.nodes c.loop-value.sets (b + x)) v c.loop-value.invariant.1 (λ q. absurd (w.if-has.ensures.no refl q)),
       )
