@@ -5,4 +5,4 @@ pub mod Bytes
 pub mod Telling
 pub mod Answering
 pub mod Work
-pub mod Measuring
+pub mod Ranking

@@ -1,6 +1,6 @@
 -- `measure`: the parts of the work memory are long enough, and what solving leaves in them can be ranked.
 use Rattle.std.proofs.Common.{refl, arith}
-use Rattle.places.proofs.Measuring.{room, roomy, rankable}
+use Rattle.places.proofs.Ranking.{room, roomy, rankable}
 use Rattle.places.proofs.measuring.measure.Goals as goal
 
 pub divide-words-requires : goal.divide-words-requires
