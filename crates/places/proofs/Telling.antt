@@ -19,13 +19,13 @@ use Rattle.places.specs.Says.{Table}
 use Rattle.places.specs.Solving.{Tells, Written, Solved, Parts, Enough}
 
 -- there are few steps: no more than bytes of the table, and 255 for each procedure
-steps_total : (k : ℕ) (ps : List Proc) → steps ps ≤ total k ps
+pub steps_total : (k : ℕ) (ps : List Proc) → steps ps ≤ total k ps
 steps_total k [] = omega arith
 steps_total k (p ∷ ps) =
     let W = 2 ^ (k + p.own) in
     omega (arith, steps_total k ps, le-mul_of_pos_right {m = W} (length p.steps + 1) (pow_pos (k + p.own)))
 
-steps_few : (k m : ℕ) (ps : List Proc) → Every (OkP k m) ps → steps ps ≤ length ps * 255
+pub steps_few : (k m : ℕ) (ps : List Proc) → Every (OkP k m) ps → steps ps ≤ length ps * 255
 steps_few k m [] o = omega arith
 steps_few k m (p ∷ ps) o = omega (arith, steps_few k m ps o.1, o.0.short)
 

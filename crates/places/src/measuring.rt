@@ -1,5 +1,5 @@
 // From a solved program to how many procedures can wait at once.
-ghost use Rattle.std.specs.Prelude.{List};
+ghost use Rattle.std.specs.Prelude.{ℕ, List};
 ghost use Rattle.program.specs.Program.{Prog};
 ghost use Rattle.places.specs.Solutions.{Lent, Rankable};
 ghost use Rattle.places.specs.Says.{Measured};

@@ -15,14 +15,14 @@ rank-requires c =
     let parts = c.split_at_mut-entries.ensures in
     record {
       known = record {
-        countable = record { fine = fine_here x _ k; aligned = aligned_here x _ k; small = omega (arith, n.table, small); sets_long = omega (arith, parts.front-len); counts_long = omega (arith, parts.back_len, x.sets_long, n.table) };
+        countable = record { fine = fine_here x _ k; aligned = aligned_here x _ k; small = omega (arith, n.table, small); sets_long = omega (arith, parts.front_len); counts_long = omega (arith, parts.back_len, x.sets_long, n.table) };
         grouped = grouped_here x _ k;
         next_long = omega (arith, x.next_long, n.procs, x.headed.reads.most);
       };
-      short = omega (arith, parts.front-len, n.table, small);
+      short = omega (arith, parts.front_len, n.table, small);
       levels = omega (arith, x.level_long, x.next_long);
       starts = starts_here x _ k;
-      told = told_here x _ k _ _ parts.value parts.front-len;
+      told = told_here x _ k _ _ parts.value parts.front_len;
     }
 
 pub returns : goal.returns

@@ -5,10 +5,10 @@ use Rattle.program.proofs.Kept.{good}
 use Rattle.places.proofs.Solved.{solved}
 use Rattle.places.proofs.solving.solve.Goals as goal
 
-pub settle-requires : goal.settle-requires
-settle-requires c = (c.requires.0, record { room = c.requires.1; starts_long = omega (arith, c.requires.1.headed.reads.most) })
+pub settle-count-requires : goal.settle-count-requires
+settle-count-requires c = (c.requires.0, record { room = c.requires.1; starts_long = omega (arith, c.requires.1.headed.reads.most) })
 
 pub returns : goal.returns
 returns c = λ g h.
-    let x = c.settle.ensures g h in
+    let x = c.settle-count.ensures g h in
     solved g _ _ (good h.reads) h.reads.few x.expanded _ x.told

@@ -16,10 +16,10 @@ solve-requires c =
       record {
         headed = e.headed;
         based = c.list_bases.ensures;
-        words_long = omega (arith, c.split_at_mut-words.ensures.front-len, n);
-        sets_long = omega (arith, c.split_at_mut-sets.ensures.front-len, n);
-        marks_long = omega (arith, marks.front-len, n);
-        marks_short = omega (arith, marks.front-len, nodes_small e);
+        words_long = omega (arith, c.split_at_mut-words.ensures.front_len, n);
+        sets_long = omega (arith, c.split_at_mut-sets.ensures.front_len, n);
+        marks_long = omega (arith, marks.front_len, n);
+        marks_short = omega (arith, marks.front_len, nodes_small e);
         sites_long = omega (arith, room e _ refl, c.split_at_mut-words.ensures.back_len, c.split_at_mut-sets.ensures.back_len, marks.back_len);
       },
     )
@@ -29,7 +29,7 @@ write_table-requires c =
     let e = c.requires.1 in
     record {
       parts = parts e _ c.list_bases.ensures;
-      long = omega (arith, e.table_long, e.headed.header.table, c.split_at_mut-sets.ensures.front-len, c.solve.auto.sets);
+      long = omega (arith, e.table_long, e.headed.header.table, c.split_at_mut-sets.ensures.front_len, c.solve.auto.sets);
     }
 
 pub returns : goal.returns
