@@ -6,7 +6,7 @@ use Rattle.program.specs.Program.{Prog}
 use Rattle.program.specs.Rows.{Reads}
 use Rattle.program.specs.Reading.{HeaderOf}
 use Rattle.program.specs.Table.{wants}
-use Rattle.program.proofs.Proved.{laws}
+use Rattle.program.proofs.Proved.{laws, waits_by_calls}
 use Rattle.places.specs.declared.Known.{Known}
 use Rattle.places.specs.declared.Known.TheVariants.{Told, NoProgram, OutFull, Few}
 use Rattle.places.specs.declared.Deep.{Deep}
@@ -38,11 +38,11 @@ module _ {s : List ℕ} {h : Header} {g : Prog} (r : Reads s g) (k : HeaderOf g 
   }
 
 pub unread : (s : List ℕ) (w : ℕ) → ((g : Prog) → Reads s g → ⊥) → DeepPost s w Unread
-unread s w n = record { says = n; short = ((λ h. absurd (n h.0 h.1)), (λ e. absurd (let z : ◌≡◌ {A = ℕ} 0 1 = cc in omega arith))); laws = laws }
+unread s w n = record { says = n; short = ((λ h. absurd (n h.0 h.1)), (λ e. absurd (let z : ◌≡◌ {A = ℕ} 0 1 = cc in omega arith))); laws = laws; waits = waits_by_calls }
 
 module _ {s : List ℕ} {h : Header} {g : Prog} (r : Reads s g) (k : HeaderOf g h) (w : ℕ) where
   pub short : w < h.work → DeepPost s w Short
-  short l = record { says = tt; short = ((λ _. refl), (λ _. (g, r, omega (arith, k.work)))); laws = laws }
+  short l = record { says = tt; short = ((λ _. refl), (λ _. (g, r, omega (arith, k.work)))); laws = laws; waits = waits_by_calls }
 
   pub measured : h.work ≤ w → (x : Deep) → (x ≡ Short → ⊥) → DeepSays s x → DeepPost s w x
-  measured l x n q = record { says = q; short = ((λ f. absurd (enough_words r k w l f)), (λ e. absurd (n e))); laws = laws }
+  measured l x n q = record { says = q; short = ((λ f. absurd (enough_words r k w l f)), (λ e. absurd (n e))); laws = laws; waits = waits_by_calls }

@@ -9,7 +9,7 @@ use Rattle.program.specs.Program.{nth, Proc, Prog, St}
 use Rattle.program.specs.Runs.{Reached, Can}
 use Rattle.program.specs.Rows.{Reads}
 use Rattle.program.specs.Table.{total, spot, wants}
-use Rattle.program.specs.Laws.{Laws}
+use Rattle.program.specs.Laws.{Laws, WaitsByCalls}
 
 -- the table of g: as long as it should be, and at each place with values a byte that is 1 if some run
 -- comes there, and 0 if none does
@@ -57,3 +57,4 @@ pub record DeepPost (s : List ℕ) (w : ℕ) (r : Deep) : Type 0 where
   pub short : ((g : Prog) × Reads s g × (w < wants g)) ↔ (r ≡ Short)
   -- the laws of programs that the answer rests on
   pub laws : Laws
+  pub waits : WaitsByCalls

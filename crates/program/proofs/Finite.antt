@@ -1,10 +1,9 @@
 -- The numbered system is finite, and each of its moves can be told: so summaries are decided, and so is
 -- how many can wait.
-use Rattle.std.proofs.Common.{◌≡◌, ℕ, ◌+◌, ◌%◌, ◌^◌, ◌<◌, ◌⊎◌, length, sym, refl, ap, ◌∙◌, subst, inl, inr, ⊎_elim, arith}
+use Rattle.std.proofs.Common.{◌≡◌, ℕ, ◌+◌, ◌%◌, ◌^◌, ◌<◌, ◌⊎◌, sym, refl, ap, ◌∙◌, subst, inl, inr, ⊎_elim, arith}
 use mathlib.Core.Logic.Dec
 use mathlib.Core.List.{Memᴰ as Mem}
 use native.Mathlib.Decide.{dec_lt, ℕ_discrete}
-use Rattle.pushdown.specs.System as pushdown
 use Rattle.pushdown.proofs.Filling.{either?}
 use Rattle.pushdown.proofs.Decide.{Finite}
 use Rattle.pushdown.proofs.Listing.{upto, in_upto}

@@ -52,7 +52,7 @@ told s g r f p a sh own h =
     let c = can_iff w h in
     Dec.of_iff (c.1, c.0) (reached? (numbered g) (finite g w) 0 (in_table g w 0 (root_in w)) _)
 
-waits_by_calls : WaitsByCalls
+pub waits_by_calls : WaitsByCalls
 waits_by_calls g d = (λ h. depth_is.0 (node h.0, h.0.below, to_run h.1, h.2), λ c. let k = depth_is.1 c in (state k.0 k.1, from_run k.2, k.3))
 
 -- the same on numbers, where it can be told
@@ -87,7 +87,6 @@ laws = record {
   reached_by_entries = reached_by_entries;
   reached_by_numbers = reached_by_numbers;
   told = told;
-  waits_by_calls = waits_by_calls;
   bounded_or_not = bounded_or_not;
   small_table = small_table;
 }

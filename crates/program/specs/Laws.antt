@@ -63,6 +63,5 @@ pub record Laws : Type 0 where
   pub reached_by_entries : ReachedByEntries
   pub reached_by_numbers : ReachedByNumbers
   pub told : Told
-  pub waits_by_calls : WaitsByCalls
   pub bounded_or_not : BoundedOrNot
   pub small_table : SmallTable

@@ -1,5 +1,5 @@
 -- Where the sets tell what the system can do, the calls between entries are the system's: paths are chains.
-use Rattle.std.proofs.Common.{◌≡◌, ℕ, zero, suc, ◌+◌, ◌%◌, ◌<◌, ◌≤◌, List, Some, None, sym, refl, ap, ◌∙◌, subst, arith}
+use Rattle.std.proofs.Common.{◌≡◌, ℕ, ◌%◌, List, Some, None, refl, subst, arith}
 use Rattle.pushdown.specs.System.{Inside, Entered, enters, Calls, Chain, stop, link}
 use Rattle.pushdown.specs.System as pushdown
 use Rattle.saturation.specs.System.{second, proc, words, Fine, Starts, TellsInside}

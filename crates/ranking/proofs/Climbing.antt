@@ -1,13 +1,13 @@
 -- From level to level: the entries of the next level are one higher; when there are none and the root has a call
 -- left, each entry with a call left calls another such, and there are paths of any length.
-use Rattle.std.proofs.Common.{◌≡◌, ℕ, zero, suc, ◌+◌, ◌*◌, ◌%◌, ◌<◌, ◌≤◌, ◌⊎◌, List, [], length, get_or, sym, refl, ap, ◌∙◌, subst, inl, inr, ⊎_elim, add-one, arith}
+use Rattle.std.proofs.Common.{◌≡◌, ℕ, zero, suc, ◌+◌, ◌%◌, ◌<◌, ◌≤◌, ◌⊎◌, List, [], length, get_or, sym, refl, ap, ◌∙◌, subst, inl, inr, ⊎_elim, add-one, arith}
 use Rattle.std.proofs.lemmas.Nat.{mod_below}
 use Rattle.std.proofs.lemmas.List.{get_or_past}
 use Rattle.std.proofs.lemmas.Bool.{cases_lt}
-use Rattle.saturation.specs.Bits.{Bit, On}
+use Rattle.saturation.specs.Bits.{On}
 use Rattle.saturation.specs.Marks.{total}
 use Rattle.saturation.specs.declared.System.{System}
-use Rattle.saturation.specs.System.{kind, first, proc, Fine}
+use Rattle.saturation.specs.System.{first, Fine}
 use Rattle.saturation.proofs.Soundness.{no_bits}
 use Rattle.saturation.proofs.Sites.{same_entry}
 use Rattle.ranking.specs.declared.Procedures.{Procedures}

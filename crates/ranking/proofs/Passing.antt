@@ -1,12 +1,12 @@
 -- The calls of one entry are passed place by place, and in each place node by node, as far apart as there are
 -- shared values.
-use Rattle.std.proofs.Common.{◌≡◌, ℕ, ◌+◌, ◌%◌, ◌<◌, ◌≤◌, ◌⊎◌, List, get_or, sym, refl, ap, ◌∙◌, subst, inl, inr, arith}
+use Rattle.std.proofs.Common.{◌≡◌, ℕ, ◌+◌, ◌%◌, ◌<◌, ◌≤◌, List, get_or, sym, ◌∙◌, subst, inl, inr, arith}
 use native.Mathlib.Nat.{add-mod_right}
 use Rattle.std.proofs.lemmas.Nat.{mod_below}
 use Rattle.std.proofs.lemmas.Bool.{cases_lt}
 use Rattle.saturation.specs.Bits.{On}
 use Rattle.saturation.specs.declared.System.{System}
-use Rattle.saturation.specs.System.{kind, first, proc, Fine}
+use Rattle.saturation.specs.System.{kind, first, Fine}
 use Rattle.saturation.proofs.Complete.{mod_from}
 use Rattle.saturation.proofs.Sites.{same_entry, close}
 use Rattle.ranking.specs.declared.Procedures.{Procedures}

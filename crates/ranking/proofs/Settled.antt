@@ -1,9 +1,9 @@
 -- What removing one call leaves, put together; and removals one after another.
-use Rattle.std.proofs.Common.{◌≡◌, ℕ, ◌+◌, ◌-◌, ◌*◌, ◌<◌, ◌≤◌, Bool, ◌⊎◌, List, length, get_or, set, sym, refl, ap, ◌∙◌, subst, inl, inr, ⊎_elim, arith}
+use Rattle.std.proofs.Common.{◌≡◌, ℕ, ◌+◌, ◌-◌, ◌<◌, Bool, List, length, get_or, set, sym, refl, ap, ◌∙◌, subst, inl, inr, arith}
 use Rattle.std.proofs.lemmas.List.{get_or-set_same}
 use Rattle.saturation.specs.declared.System.{System}
 use Rattle.saturation.specs.Bits.{On, Grew, Added}
-use Rattle.saturation.specs.Marks.{Removed, total}
+use Rattle.saturation.specs.Marks.{Removed}
 use Rattle.saturation.specs.System.{kind, proc}
 use Rattle.ranking.specs.declared.Procedures.{Procedures}
 use Rattle.ranking.specs.Calls.{CallAt, callee}

@@ -1,9 +1,9 @@
 -- One call is removed from one entry: the counts stay right, the level is kept, and whoever waited still waits
 -- or is of the next level.
-use Rattle.std.proofs.Common.{◌≡◌, ℕ, zero, suc, ◌+◌, ◌-◌, ◌<◌, ◌≤◌, ◌≢◌, ◌⊎◌, List, length, get_or, set, sym, refl, ap, ◌∙◌, subst, inl, inr, ⊎_elim, arith}
+use Rattle.std.proofs.Common.{◌≡◌, ℕ, suc, ◌+◌, ◌-◌, ◌<◌, ◌≤◌, ◌≢◌, ◌⊎◌, List, length, get_or, set, sym, refl, ap, ◌∙◌, subst, inl, inr, ⊎_elim, arith}
 use Rattle.std.proofs.lemmas.List.{get_or-set_same}
-use Rattle.std.proofs.lemmas.Bool.{cases_eq, cases_lt}
-use Rattle.saturation.specs.Bits.{Bit, On, Added}
+use Rattle.std.proofs.lemmas.Bool.{cases_eq}
+use Rattle.saturation.specs.Bits.{On}
 use Rattle.saturation.specs.Marks.{Removed}
 use Rattle.saturation.specs.System.{kind, proc}
 use Rattle.ranking.specs.Calls.{Aligned, CallAt, callee, Height}

@@ -1,5 +1,5 @@
 -- How many calls each entry has.
-use Rattle.std.specs.Prelude.{◌≡◌, ℕ, suc, ◌+◌, ◌*◌, ◌^◌, ◌<◌, ◌≤◌, List, length, slice_index}
+use Rattle.std.specs.Prelude.{ℕ, suc, ◌+◌, ◌*◌, ◌^◌, ◌<◌, ◌≤◌, List, length, slice_index}
 use Rattle.saturation.specs.System.{proc, Fine}
 use Rattle.saturation.specs.declared.System.{System}
 use Rattle.ranking.specs.Calls.{CallAt, Aligned}

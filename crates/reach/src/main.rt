@@ -8,7 +8,7 @@ use report::complaints::Complaint;
 use report::queries::answer;
 use report::refused::unreadable;
 use report::summaries::summary;
-use std::io::ErrorKind;
+use std::process::ExitCode;
 use std::{env, fs, io};
 
 fn run(rt: &HostRuntime) -> Result<String, Complaint> {
@@ -29,12 +29,16 @@ fn run(rt: &HostRuntime) -> Result<String, Complaint> {
     }
 }
 
-fn main(rt: HostRuntime) -> io::Result<()> {
+// A complaint is printed once, and the status is 1: an `Err` from here would be printed too.
+fn main(rt: HostRuntime) -> io::Result<ExitCode> {
     match run(&rt) {
-        Ok(text) => rt.print(text),
+        Ok(text) => {
+            rt.print(text)?;
+            Ok(ExitCode::SUCCESS)
+        }
         Err(complaint) => {
             rt.eprintln(complaint)?;
-            Err(ErrorKind::Other.into())
+            Ok(ExitCode::FAILURE)
         }
     }
 }

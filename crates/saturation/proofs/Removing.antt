@@ -1,13 +1,13 @@
 -- A bit that is set is cleared by `^`: the other bits stay, and the word falls.
-use Rattle.std.proofs.Common.{◌≡◌, ℕ, zero, suc, ◌+◌, ◌*◌, ◌/◌, ◌%◌, ◌^◌, ◌<◌, ◌≤◌, ◌≢◌, ◌⊎◌, List, length, get_or, set, sym, refl, ap, ◌∙◌, subst, inl, inr, arith}
+use Rattle.std.proofs.Common.{◌≡◌, ℕ, zero, suc, ◌+◌, ◌*◌, ◌/◌, ◌%◌, ◌^◌, ◌<◌, ◌≢◌, ◌⊎◌, List, length, get_or, set, sym, refl, ap, ◌∙◌, subst, inl, inr, arith}
 use lib.Bits.{bit_xor, bit_and, differ, xor_step, xor_shr, xor_add_and, and_shr, and_mask, and_le_r}
 use Rattle.std.proofs.lemmas.List.Sums.{sum_by-set}
-use Rattle.std.proofs.lemmas.Nat.{shr_split, shl-shr, mod_below, one_shl}
+use Rattle.std.proofs.lemmas.Nat.{shr_split, shl-shr}
 use Rattle.std.proofs.lemmas.List.{get_or-set_same, get_or-set_other}
 use Rattle.std.proofs.lemmas.Bool.{cases_eq}
 use Rattle.saturation.specs.Bits.{Bit, On}
 use Rattle.saturation.specs.Marks.{total, Removed}
-use Rattle.saturation.proofs.Nodes.{pow_bit, pow_odd, half, move}
+use Rattle.saturation.proofs.Nodes.{pow_bit, pow_odd, half}
 
 differ_is : (a b : ℕ) → a < 2 → b < 2 → differ a b ≡ (a + b) % 2
 differ_is zero b h l = omega arith

@@ -1,5 +1,5 @@
 -- The calls of a procedure: place after place, and node after node in each.
-use Rattle.std.proofs.Common.{◌≡◌, ℕ, ◌+◌, ◌/◌, ◌%◌, ◌<◌, ◌≤◌, true, false, ◌⊎◌, List, sym, ap, ◌∙◌, subst, inl, inr, add-mul, arith, below_more}
+use Rattle.std.proofs.Common.{◌≡◌, ℕ, ◌+◌, ◌/◌, ◌%◌, ◌<◌, ◌≤◌, true, ◌⊎◌, List, sym, ap, ◌∙◌, subst, inl, inr, add-mul, arith, below_more}
 use Rattle.std.proofs.lemmas.Bool.{true≢false, cases_lt}
 use native.Mathlib.Nat.{add-mod_right}
 use Rattle.std.proofs.lemmas.Nat.{mul-le, div-add-mod'}

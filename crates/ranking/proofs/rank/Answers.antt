@@ -1,7 +1,6 @@
 -- `rank`: level after level; at the root's level its height is known, and with nothing of the next level there
 -- is none.
 use Rattle.std.proofs.Common.{◌≡◌, ℕ, ◌+◌, ◌<◌, length, get_or, sym, refl, subst, add-zero, arith}
-use Rattle.saturation.specs.Marks.{total}
 use Rattle.saturation.proofs.Marking.{total_le}
 use Rattle.ranking.specs.Calls.{Path, Height}
 use Rattle.ranking.specs.Levels.{AtLevel}

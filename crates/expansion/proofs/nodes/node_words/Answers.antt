@@ -1,4 +1,4 @@
-use Rattle.std.proofs.Common.{true, false, Some, sym, refl, ap, ◌∙◌, arith}
+use Rattle.std.proofs.Common.{Some, sym, refl, ap, ◌∙◌, arith}
 use Rattle.std.proofs.lemmas.Bool.{false≢true}
 use Rattle.expansion.proofs.Placed.{at_step, wide, next_small, set_var, set_has, set_small, set_codes, open_var, open_small, open_codes, go_has, go_there, go_codes, call_in, call_codes}
 use Rattle.expansion.proofs.nodes.node_words.Goals as goal

@@ -1,5 +1,4 @@
 -- `calls`: two words of the node.
-use Rattle.std.proofs.Common.{arith}
 use Rattle.std.proofs.lemmas.Bool.{eqb-true, eqb-false}
 use Rattle.saturation.specs.System.{kind, first}
 use Rattle.ranking.proofs.levels.calls.Goals as goal

@@ -1,5 +1,5 @@
 -- `settle_callers`: call place after call place; each call of the procedure stands in one of them.
-use Rattle.std.proofs.Common.{ℕ, ◌+◌, ◌≤◌, get_or, arith, below_more}
+use Rattle.std.proofs.Common.{◌+◌, ◌≤◌, get_or, arith, below_more}
 use Rattle.ranking.specs.Levels.{Taken, InPlace}
 use Rattle.ranking.proofs.Settled.{settles_none, settles_then, known_still}
 use Rattle.ranking.proofs.Passing.{base_even, value_is}

@@ -1,5 +1,5 @@
 -- `settle_level`: procedure after procedure.
-use Rattle.std.proofs.Common.{ℕ, refl, arith, below_more}
+use Rattle.std.proofs.Common.{refl, arith, below_more}
 use Rattle.ranking.specs.Levels.{ProcedureDone}
 use Rattle.ranking.proofs.Settled.{settles_none, settles_then, known_still}
 use Rattle.ranking.proofs.levels.settle_level.Goals as goal

@@ -1,5 +1,5 @@
 -- `settle_place`: node after node, as far apart as there are shared values.
-use Rattle.std.proofs.Common.{◌≡◌, ℕ, ◌+◌, ◌%◌, ◌<◌, ◌≤◌, get_or, sym, refl, subst, arith}
+use Rattle.std.proofs.Common.{◌+◌, get_or, sym, refl, subst, arith}
 use Rattle.std.proofs.lemmas.Nat.{mod_below}
 use Rattle.saturation.specs.System.{second, site_begin}
 use Rattle.saturation.proofs.Complete.{mod_from}

@@ -1,5 +1,5 @@
 -- `settle_procedure`: value after value.
-use Rattle.std.proofs.Common.{ℕ, ◌+◌, get_or, refl, arith, below_more}
+use Rattle.std.proofs.Common.{◌+◌, get_or, refl, arith, below_more}
 use Rattle.saturation.specs.Bits.{On}
 use Rattle.ranking.specs.Calls.{Done}
 use Rattle.ranking.proofs.Settled.{settles_none, settles_then, settles_of, known_still}
