@@ -1,12 +1,12 @@
 -- A solved program can be ranked, and its rank is the greatest number that can wait: chains of calls in the words
 -- are chains on its numbers, and these are as long as the stacks of its runs.
-use Rattle.std.proofs.Common.{◌≡◌, ℕ, zero, suc, ◌+◌, ◌*◌, ◌/◌, ◌%◌, ◌^◌, ◌<◌, ◌≤◌, ◌↔◌, List, ◌++◌, length, get_or, take, Some, None, Option, sym, refl, ap, ◌∙◌, subst, mul-add, le-mul_of_pos_right, arith}
+use Rattle.std.proofs.Common.{◌≡◌, ℕ, zero, suc, ◌+◌, ◌*◌, ◌/◌, ◌%◌, ◌^◌, ◌<◌, ◌≤◌, List, ◌++◌, length, get_or, take, Some, None, Option, sym, refl, ap, ◌∙◌, subst, mul-add, le-mul_of_pos_right, arith}
 use Rattle.std.proofs.lemmas.Nat.{pow_pos}
 use Rattle.expansion.proofs.Walking.{small}
 use Rattle.places.proofs.Telling.{steps_total, steps_few}
 use Rattle.std.proofs.lemmas.List.{get_or_append_left}
-use Rattle.saturation.specs.Bits.{Bit, On}
-use Rattle.saturation.specs.System.{words, Fine, Starts, Tells, TellsInside}
+use Rattle.saturation.specs.Bits.{Bit}
+use Rattle.saturation.specs.System.{Fine, Starts, TellsInside}
 use Rattle.saturation.proofs.Nodes.{half}
 use Rattle.ranking.specs.Calls.{Aligned, Grouped}
 use Rattle.ranking.specs.Ranks.{Ranked}

@@ -1,8 +1,8 @@
 -- The worked example: its runs, step by step, and where their bytes stand.
 use Rattle.std.proofs.Common.{true, refl, arith}
 use Rattle.program.specs.Program.{var}
-use Rattle.program.specs.Runs.{Reached, at_first, by, opens, goes, calls}
-use Rattle.places.specs.Example.{ring, program, in_ring, Worked}
+use Rattle.program.specs.Runs.{at_first, by, opens, goes, calls}
+use Rattle.places.specs.Example.{ring, Worked}
 
 pub worked : Worked
 worked = record {

@@ -1,7 +1,7 @@
 -- A small program, worked: a procedure that calls itself as often as it likes and turns the shared
 -- variable over on the way back.
 use Rattle.std.specs.Prelude.{◌≡◌, ℕ, Bool, true, false, List, [], ◌∷◌}
-use Rattle.program.specs.Program.{var, not1, set, open1, go, call, Proc, Prog, Frame, St}
+use Rattle.program.specs.Program.{var, not1, set, open1, go, call, Proc, Prog, St}
 use Rattle.program.specs.Runs.{Reached}
 use Rattle.program.specs.Rows.{Reads}
 use Rattle.program.specs.Table.{total, spot}

@@ -1,13 +1,12 @@
 -- What the byte of a query says is whether its place is reached.
-use Rattle.std.proofs.Common.{◌≡◌, ℕ, zero, suc, ◌+◌, ◌*◌, ◌^◌, ◌<◌, ◌≤◌, Bool, ◌⊎◌, ◌↔◌, List, [], ◌∷◌, ◌++◌, length, get_or, Ok, codes, sym, refl, ap, ◌∙◌, subst, inl, inr, arith}
+use Rattle.std.proofs.Common.{◌≡◌, ℕ, zero, suc, ◌+◌, ◌*◌, ◌^◌, ◌<◌, ◌≤◌, List, [], ◌∷◌, length, get_or, Ok, codes, sym, ap, ◌∙◌, subst, inl, inr, arith}
 use mathlib.Core.Option.{some}
 use Rattle.std.proofs.lemmas.Bool.{cases_eq}
 use Rattle.program.specs.declared.programs.Header.{Header}
-use Rattle.program.specs.Program.{nth, Proc, Prog}
-use Rattle.program.specs.Runs.{Can}
+use Rattle.program.specs.Program.{nth, Prog}
 use Rattle.program.specs.Rows.{Reads, OneProgram}
 use Rattle.program.specs.Reading.{ReadProgram, HeaderOf}
-use Rattle.program.specs.Table.{num, spot, before}
+use Rattle.program.specs.Table.{spot, before}
 use Rattle.places.specs.Says.{Table}
 use Rattle.report.specs.declared.queries.Query.{Query}
 use Rattle.report.specs.declared.queries.Part.{Part}

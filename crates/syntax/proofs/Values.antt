@@ -1,13 +1,13 @@
 -- The value of a word, digit by digit. Assumes nothing.
-use Rattle.std.proofs.Common.{◌≡◌, ℕ, ◌+◌, ◌-◌, ◌*◌, ◌<◌, ◌≤◌, min, List, length, get_or, take, fold, sym, refl, ap, ◌∙◌, subst, arith}
-use Rattle.std.specs.List.{AllByRecursion as All}
-use Rattle.std.proofs.ByRecursion.{All-get_or, All-more}
+use Rattle.std.proofs.Common.{◌≡◌, ℕ, ◌+◌, ◌-◌, ◌*◌, ◌<◌, ◌≤◌, min, List, length, get_or, take, fold, ap, subst, arith}
+use Rattle.std.specs.List.{AllByRecursion}
+use Rattle.std.proofs.ByRecursion.{All-get_or}
 use Rattle.std.proofs.lemmas.List.{take_all}
 use Rattle.std.proofs.lemmas.List.Sums.{fold_more}
 use Rattle.syntax.specs.Decimal.{Number}
 
 abbrev pub Digits : List ℕ → Type 0
-Digits w = All (λ b. (48 ≤ b) × (b ≤ 57)) w
+Digits w = AllByRecursion (λ b. (48 ≤ b) × (b ≤ 57)) w
 
 abbrev pub val : List ℕ → ℕ
 val w = fold (λ v b. 10 * v + (b - 48)) 0 w

@@ -1,12 +1,11 @@
 -- What is written as decimal numbers is listed. Assumes nothing.
-use Rattle.std.proofs.Common.{◌≡◌, ℕ, ◌+◌, ◌-◌, ◌*◌, ◌/◌, ◌%◌, ◌^◌, ◌<◌, ◌≤◌, true, false, eqb, List, [], ◌∷◌, ◌++◌, length, decimal, sym, refl, ap, ◌∙◌, subst, arith}
-use Rattle.std.specs.List.{AllByRecursion as All}
+use Rattle.std.proofs.Common.{◌≡◌, ℕ, ◌+◌, ◌-◌, ◌*◌, ◌/◌, ◌%◌, ◌<◌, ◌≤◌, true, false, eqb, List, [], ◌∷◌, ◌++◌, decimal, sym, ap, ◌∙◌, subst, arith}
 use Rattle.std.proofs.lemmas.Fmt.{decimal_by_steps, decimal_nonempty}
 use Rattle.std.proofs.ByRecursion.{All-push}
 use Rattle.std.proofs.lemmas.List.{append_assoc, append-nil}
 use Rattle.std.proofs.lemmas.List.Sums.{fold_push}
 use Rattle.std.proofs.lemmas.Bool.{cond-false, ne_eqb, or_from}
-use Rattle.syntax.specs.Decimal.{uncomment, gap, words, finish, Number, Numbers, Lists, written, ListsWritten}
+use Rattle.syntax.specs.Decimal.{uncomment, gap, words, finish, Numbers, written, ListsWritten}
 use Rattle.syntax.proofs.Splitting.{some_word}
 use Rattle.syntax.proofs.Values.{Digits, val}
 

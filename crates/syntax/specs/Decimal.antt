@@ -1,7 +1,7 @@
 -- The numbers that a text lists: the text loses its comments, is split into words, and each word is
 -- a number. A text is the list of its bytes.
 use Rattle.std.specs.Prelude.{◌≡◌, ℕ, ◌+◌, ◌-◌, ◌*◌, ◌≤◌, Bool, true, false, cond, ◌||◌, List, [], ◌∷◌, ◌++◌, decimal, fold, ◌==◌}
-use Rattle.std.specs.List.{AllByRecursion as All}
+use Rattle.std.specs.List.{AllByRecursion}
 
 -- a comment runs from a # (35) up to the line end (10), which stays; the flag says whether the
 -- text begins within a comment
@@ -27,7 +27,7 @@ words w (b ∷ bs) = cond (gap b) (finish w (words [] bs)) (words (w ++ b ∷ []
 
 -- the word has the digits 0 (48) to 9 (57) alone, its value is n, and n fits a byte
 pub record Number (w : List ℕ) (n : ℕ) : Type 0 where
-  pub digits : All (λ b. (48 ≤ b) × (b ≤ 57)) w
+  pub digits : AllByRecursion (λ b. (48 ≤ b) × (b ≤ 57)) w
   pub value : fold (λ v b. 10 * v + (b - 48)) 0 w ≡ n
   pub fits : n ≤ 255
 
@@ -49,4 +49,4 @@ written (n ∷ ns) = decimal n ++ 32 ∷ written ns
 
 -- bytes that are written so are listed
 abbrev pub ListsWritten : Type 0
-ListsWritten = (ns : List ℕ) → All (λ n. n ≤ 255) ns → Lists (written ns) ns
+ListsWritten = (ns : List ℕ) → AllByRecursion (λ n. n ≤ 255) ns → Lists (written ns) ns

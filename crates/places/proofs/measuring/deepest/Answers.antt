@@ -1,8 +1,6 @@
 -- `deepest`: what ranking asks of the words of a solved program, and what it tells.
 use Rattle.std.proofs.Common.{arith}
-use Rattle.program.specs.Laws.{Laws}
 use Rattle.program.proofs.Proved.{laws}
-use Rattle.ranking.specs.Levels.{Known}
 use Rattle.places.proofs.Ranking.{fine_here, aligned_here, grouped_here, starts_here, told_here, measured}
 use Rattle.places.proofs.measuring.deepest.Goals as goal
 

@@ -1,6 +1,5 @@
 -- `solve`: there is room to settle, and a settled program's sets tell what is reached.
 use Rattle.std.proofs.Common.{arith}
-use Rattle.places.specs.Solutions.{Solution}
 use Rattle.program.proofs.Kept.{good}
 use Rattle.places.proofs.Solved.{solved}
 use Rattle.places.proofs.solving.solve.Goals as goal

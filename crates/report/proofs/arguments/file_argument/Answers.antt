@@ -1,4 +1,4 @@
-use Rattle.std.proofs.Common.{◌≡◌, ℕ, ◌+◌, ◌⊎◌, List, [], ◌∷◌, length, get_or, sym, refl, ap, inl, inr, arith, rules, ltb-false, ltb-true}
+use Rattle.std.proofs.Common.{◌≡◌, ℕ, ◌+◌, List, [], ◌∷◌, length, get_or, sym, ap, inl, inr, arith, rules, ltb-false, ltb-true}
 use Rattle.report.proofs.arguments.file_argument.Goals as goal
 
 second : {X : Type 0} (xs : List X) (x : X) (n : ℕ) → length xs ≡ n + 2 → x ≡ get_or xs 1 x → (a : X) × (q : List X) × (xs ≡ a ∷ x ∷ q) × (length q ≡ n)

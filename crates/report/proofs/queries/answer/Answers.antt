@@ -1,4 +1,4 @@
-use Rattle.std.proofs.Common.{◌≡◌, ◌+◌, ◌≤◌, sym, subst, arith, pow_pos, pow_mono}
+use Rattle.std.proofs.Common.{◌+◌, ◌≤◌, sym, subst, arith, pow_pos, pow_mono}
 use Rattle.places.specs.Says.{Table}
 use Rattle.syntax.specs.Decimal.{Lists}
 use Rattle.report.specs.Queries.{Tells}
