@@ -81,12 +81,12 @@ write_expr-write_equal-requires-in-Differ t c =
       (rw c.deref-in-Differ.ensures o.left, rw c.deref-in-Differ-2.ensures o.right),
     )
 
-pub write_expr-returns-in_ok-write_expr : goal.write_expr-returns-in_ok-write_expr
-write_expr-returns-in_ok-write_expr t c =
-    let tag = adds (2 ∷ []) (vec_items c.args.out.now) c.in_ok-push-2.ensures.items in
-    adds_as (not_bytes c.in-Not.is c.deref.ensures) (adds_both tag c.in_ok-write_expr.ensures)
+pub write_expr-returns-in_ok-write_expr-in-Not : goal.write_expr-returns-in_ok-write_expr-in-Not
+write_expr-returns-in_ok-write_expr-in-Not t c =
+    let tag = adds (2 ∷ []) (vec_items c.args.out.now) c.in_ok-push-in-Not.ensures.items in
+    adds_as (not_bytes c.in-Not.is c.deref.ensures) (adds_both tag c.in_ok-write_expr-in-Not.ensures)
 
-pub write_expr-returns-in_ok-write_equal-2 : goal.write_expr-returns-in_ok-write_equal-2
-write_expr-returns-in_ok-write_equal-2 t c =
-    let tag = adds (2 ∷ []) (vec_items c.args.out.now) c.in_ok-push-3.ensures.items in
-    adds_as (differ_bytes c.in-Differ.is c.deref-in-Differ.ensures c.deref-in-Differ-2.ensures) (adds_both tag c.in_ok-write_equal-2.ensures)
+pub write_expr-returns-in_ok-write_equal-in-Differ : goal.write_expr-returns-in_ok-write_equal-in-Differ
+write_expr-returns-in_ok-write_equal-in-Differ t c =
+    let tag = adds (2 ∷ []) (vec_items c.args.out.now) c.in_ok-push-in-Differ.ensures.items in
+    adds_as (differ_bytes c.in-Differ.is c.deref-in-Differ.ensures c.deref-in-Differ-2.ensures) (adds_both tag c.in_ok-write_equal-in-Differ.ensures)
