@@ -1,11 +1,11 @@
 -- The byte of a place with values says whether a run comes there with them.
-use Rattle.std.proofs.Common.{◌≡◌, ℕ, ◌+◌, ◌*◌, ◌^◌, ◌<◌, ◌≤◌, Bool, ◌⊎◌, ◌↔◌, List, ◌++◌, length, get_or, take, drop, sym, refl, ap, ◌∙◌, subst, inl, inr, add-mul, one-mul, arith, length-append, length-drop, take-append-drop, length-take, get_or-drop, get_or-take}
+use Rattle.std.proofs.Common.{◌≡◌, ℕ, ◌+◌, ◌*◌, ◌^◌, ◌<◌, ◌≤◌, Bool, ◌↔◌, List, ◌++◌, length, get_or, take, drop, sym, ap, ◌∙◌, subst, add-mul, one-mul, arith, length-append, length-drop, take-append-drop, length-take, get_or-drop, get_or-take}
 use mathlib.Core.Option.{Option, some}
 use Rattle.std.proofs.lemmas.Nat.{mul-le}
 use Rattle.program.specs.Program.{nth, Proc, Prog}
 use Rattle.program.specs.Runs.{Can}
 use Rattle.program.specs.Rows.{Reads}
-use Rattle.program.specs.Table.{num, before, size, spot, total}
+use Rattle.program.specs.Table.{num, before, spot}
 use Rattle.program.specs.Values.{bits}
 use Rattle.program.proofs.Nums.{num_bits, length_bits, num_lt}
 use Rattle.program.proofs.Kept.{good, reached_ok}

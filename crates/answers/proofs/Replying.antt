@@ -1,8 +1,8 @@
 -- A text that begins with the verdict says what was found.
-use Rattle.std.proofs.Common.{◌≡◌, ℕ, ◌<◌, ◌⊎◌, ◌↔◌, List, [], ◌++◌, get_or, codes, sym, refl, ap, ◌∙◌, subst, inl, inr, arith}
+use Rattle.std.proofs.Common.{◌≡◌, ℕ, ◌<◌, List, ◌++◌, get_or, codes, sym, ap, ◌∙◌, inl, inr, arith}
 use Rattle.std.proofs.lemmas.Bool.{cases_eq}
 use Rattle.program.specs.Program.{Prog}
-use Rattle.answers.specs.declared.places.Question.{Question}
+use Rattle.answers.specs.declared.reached.Question.{Question}
 use Rattle.answers.specs.Looking.{Answers}
 use Rattle.answers.specs.Replies.{Begins, Says}
 

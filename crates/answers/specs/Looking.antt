@@ -8,7 +8,7 @@ use Rattle.program.specs.Table.{num}
 use Rattle.report.specs.declared.complaints.Complaint.{Complaint}
 use Rattle.answers.specs.declared.deciding.Decided.{Decided}
 use Rattle.answers.specs.declared.matches.Matches.{Matches}
-use Rattle.answers.specs.declared.places.Question.{Question}
+use Rattle.answers.specs.declared.reached.Question.{Question}
 use Rattle.answers.specs.Deciding.{Holds}
 
 -- some run comes to place a of procedure f with values of which P holds

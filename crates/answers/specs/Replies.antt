@@ -5,7 +5,7 @@ use Rattle.std.specs.declared.alloc.Global.{Global}
 use Rattle.program.specs.Program.{nth, Proc, Prog}
 use Rattle.report.specs.declared.complaints.Complaint.{Complaint}
 use Rattle.answers.specs.declared.deciding.Decided.{Decided}
-use Rattle.answers.specs.declared.places.Question.{Question}
+use Rattle.answers.specs.declared.reached.Question.{Question}
 use Rattle.answers.specs.Deciding.{Holds}
 use Rattle.answers.specs.Looking.{Comes}
 

@@ -6,7 +6,7 @@ use Rattle.tree.specs.declared.programs.Tree.{Tree}
 use Rattle.tree.specs.Meaning.{meaning}
 use Rattle.report.specs.declared.complaints.Complaint.{Complaint}
 use Rattle.answers.specs.declared.deciding.Decided.{Decided}
-use Rattle.answers.specs.declared.places.Question.{Question}
+use Rattle.answers.specs.declared.reached.Question.{Question}
 use Rattle.answers.specs.Deciding.{Holds}
 use Rattle.answers.specs.Replies.{Says}
 

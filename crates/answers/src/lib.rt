@@ -4,8 +4,8 @@
 
 pub mod deciding;
 pub mod matches;
-pub mod places;
 pub mod questions;
+pub mod reached;
 pub mod replies;
 pub mod sources;
 pub mod surveys;

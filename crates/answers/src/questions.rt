@@ -1,7 +1,7 @@
 // The question that the words of a query ask: PROCEDURE:PLACE, then NAME=0 or NAME=1 for some variables. Relies on
 // `text` for the names that there are.
 use crate::matches::Pattern;
-use crate::places::Question;
+use crate::reached::Question;
 use report::complaints::Complaint;
 use report::refused::Word;
 use std::alloc::Global;

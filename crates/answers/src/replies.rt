@@ -1,5 +1,5 @@
 // The answer to a question: yes or no on the first line, then a sentence, and where variables were left open, the
-// values that will do. Relies on `places` for what is found.
+// values that will do. Relies on `reached` for what is found.
 ghost use Rattle.std.specs.Prelude.{◌≡◌, ℕ, ◌<◌, codes};
 ghost use Rattle.program.specs.Program.{Prog};
 ghost use Rattle.answers.specs.Deciding.{Holds};
@@ -7,7 +7,7 @@ ghost use Rattle.answers.specs.Replies.{Replied};
 
 use crate::deciding::Decided;
 use crate::matches::Matches;
-use crate::places::{Question, look};
+use crate::reached::{Question, look};
 use report::complaints::Complaint;
 use std::alloc::Global;
 use std::fmt;

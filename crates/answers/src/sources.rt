@@ -4,7 +4,7 @@ ghost use Rattle.std.specs.Prelude.{◌≡◌};
 ghost use Rattle.answers.specs.Sources.{EncodedTree, DecidedTree, AnsweredTree};
 
 use crate::deciding::{Decided, decide_bytes};
-use crate::places::Question;
+use crate::reached::Question;
 use crate::replies::reply;
 use report::complaints::Complaint;
 use std::alloc::Global;

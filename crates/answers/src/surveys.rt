@@ -1,10 +1,10 @@
 // A program as a whole: how many places are never reached, which they are, and how many calls can wait. Relies on
-// `places` for which places are reached, and on `report` for how many calls can wait.
+// `reached` for which places are reached, and on `report` for how many calls can wait.
 ghost use Rattle.program.specs.Program.{Prog};
 ghost use Rattle.answers.specs.Deciding.{Holds};
 
 use crate::deciding::Decided;
-use crate::places::reached_places;
+use crate::reached::reached_places;
 use crate::sources::decide_source;
 use report::complaints::Complaint;
 use report::waiting::{Waiting, calls_waiting};

@@ -1,5 +1,5 @@
 -- `reply`: the text begins with the verdict.
-use Rattle.std.proofs.Common.{◌≡◌, [], ◌++◌, sym, ap, ◌∙◌, append-nil}
+use Rattle.std.proofs.Common.{[], ◌++◌, sym, ap, ◌∙◌, append-nil}
 use Rattle.answers.proofs.Replying.{says}
 use Rattle.answers.proofs.replies.reply.Goals as goal
 

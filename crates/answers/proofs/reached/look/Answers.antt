@@ -3,7 +3,7 @@ use Rattle.std.proofs.Common.{◌≡◌, ◌≤◌, length, sym, subst, arith}
 use lib.Bits.{bit_and}
 use Rattle.program.specs.Rows.{Reads}
 use Rattle.answers.proofs.Locating.{located, inside, told}
-use Rattle.answers.proofs.places.look.Goals as goal
+use Rattle.answers.proofs.reached.look.Goals as goal
 
 pub find_part-part-requires : goal.find_part-part-requires
 find_part-part-requires c =

@@ -1,8 +1,8 @@
 -- `reached_places`: a place is reached exactly if one of its bytes is 1.
-use Rattle.std.proofs.Common.{◌≡◌, ℕ, ◌+◌, length, ap, ◌∙◌, arith, length-append}
+use Rattle.std.proofs.Common.{◌≡◌, ◌+◌, length, ap, ◌∙◌, arith, length-append}
 use Rattle.answers.specs.Looking.{Comes}
 use Rattle.answers.proofs.Locating.{located, inside, told, flags_more, said}
-use Rattle.answers.proofs.places.reached_places.Goals as goal
+use Rattle.answers.proofs.reached.reached_places.Goals as goal
 
 pub place_bytes-bytes-requires : goal.place_bytes-bytes-requires
 place_bytes-bytes-requires c =
