@@ -21,3 +21,6 @@ loop-y-preserved c = elim c.if-has.branch [
   | then-has w ↦ simp (w.work-is, w.marks-is, w.new-is) (resume_progress c.requires.ready.fine c.args.n c.requires.within c.loop-y.y (omega arith) c.requires.is (w.if-has.ensures.yes refl) w.propagate-new.ensures.joined w.propagate-new.ensures.grew w.propagate-new.ensures.marked c.loop-y.invariant)
   | else-has w ↦ simp (w.work-is, w.marks-is, w.new-is) (c.loop-y.invariant.0, below_more (λ j. ResumeClosed c.args.system.graph.now c.args.system.shared c.args.system.nodes c.args.n j c.loop-y.work) c.loop-y.y c.loop-y.invariant.1 (λ x b o a. absurd (w.if-has.ensures.no refl a)))
 ]
+
+pub returns : goal.returns
+returns c = record { progress = c.loop-y.invariant.0; closed = λ y b. c.loop-y.invariant.1 y (omega arith) }
