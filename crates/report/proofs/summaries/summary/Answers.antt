@@ -1,4 +1,4 @@
-use Rattle.std.proofs.Common.{vec_items}
+use Rattle.std.proofs.Common.{vec_items, rules}
 use Rattle.report.proofs.Refusals.{lists_none, lists_no_program}
 use Rattle.report.proofs.summaries.summary.Goals as goal
 
@@ -8,4 +8,4 @@ returns-in-Err c = lists_none c.args.text.now c.in-Err.fault c.no_listing.result
 pub returns-in-Err-read : goal.returns-in-Err-read
 returns-in-Err-read c =
     lists_no_program c.args.text.now (vec_items c.in-Ok.listing.bytes) c.no_program.result c.in-Ok.ensures.0
-    (λ g r. c.in-Err-read.ensures.reads g (rw c.as_slice.ensures.value r))
+    (λ g r. c.in-Err-read.ensures.reads g (search (rules, r)))
