@@ -9,9 +9,9 @@ use Rattle.answers.specs.Deciding.{DecidedOf}
 use Rattle.answers.specs.Sources.{DecidedTree}
 use Rattle.answers.proofs.sources.decide_source.Goals as goal
 
-decided-tree : (t : Tree) (s : List ℕ) (r : Result Decided Complaint) → Reads s (meaning t) → DecidedOf s r → DecidedTree t r
-decided-tree t s (Ok d) q h = h (meaning t) q
-decided-tree t s (Err c) q h = tt
+decided_tree : (t : Tree) (s : List ℕ) (r : Result Decided Complaint) → Reads s (meaning t) → DecidedOf s r → DecidedTree t r
+decided_tree t s (Ok d) q h = h (meaning t) q
+decided_tree t s (Err c) q h = tt
 
 pub returns : goal.returns
-returns c = decided-tree c.args.source.now.tree _ c.decide_bytes.result c.in_ok-bytes.ensures c.decide_bytes.ensures
+returns c = decided_tree c.args.source.now.tree _ c.decide_bytes.result c.in_ok-bytes.ensures c.decide_bytes.ensures
