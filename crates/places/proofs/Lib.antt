@@ -1,4 +1,4 @@
--- From the words to the table, and each answer of `know`.
+-- From the words to the table and to the depth, and each answer of `know` and `depth`.
 pub mod Bridge
 pub mod Solved
 pub mod Bytes

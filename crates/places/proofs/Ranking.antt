@@ -1,9 +1,7 @@
 -- A solved program can be ranked, and its rank is the greatest number that can wait: chains of calls in the words
 -- are chains on its numbers, and these are as long as the stacks of its runs.
-use Rattle.std.proofs.Common.{◌≡◌, ℕ, zero, suc, ◌+◌, ◌*◌, ◌/◌, ◌%◌, ◌^◌, ◌<◌, ◌≤◌, List, ◌++◌, length, get_or, take, Some, None, Option, sym, refl, ap, ◌∙◌, subst, mul-add, le-mul_of_pos_right, arith}
-use Rattle.std.proofs.lemmas.Nat.{pow_pos}
-use Rattle.expansion.proofs.Walking.{small}
-use Rattle.places.proofs.Telling.{steps_total, steps_few}
+use Rattle.std.proofs.Common.{◌≡◌, ℕ, zero, suc, ◌+◌, ◌*◌, ◌/◌, ◌%◌, ◌^◌, ◌<◌, ◌≤◌, List, ◌++◌, length, get_or, take, Some, None, Option, sym, refl, ap, ◌∙◌, subst, arith}
+use Rattle.places.proofs.Telling.{wanted, nodes_small}
 use Rattle.std.proofs.lemmas.List.{get_or_append_left}
 use Rattle.saturation.specs.Bits.{Bit}
 use Rattle.saturation.specs.System.{Fine, Starts, TellsInside}
@@ -21,38 +19,26 @@ use Rattle.places.specs.Says.{Measured}
 use Rattle.expansion.specs.Programs.{Headed, Based}
 use Rattle.places.specs.declared.memory.Memory.{Memory}
 use Rattle.places.specs.Memory.{Divided}
-use Rattle.expansion.specs.Sites.{steps}
 use Rattle.places.specs.Solutions.{Solution, Space, Lent, Rankable}
 use Rattle.places.proofs.Solved.{sites_cut}
 use Rattle.places.proofs.Bridge.{fine, starts_at, aligned, grouped, chain_from, chain_back}
 
-module _ {s : List ℕ} {h : Header} {work : List ℕ} {g : Prog} (e : Lent s h work g) where
-  -- the parts of the work memory: words and sets of four words for each node, marks, two sets of entries, and
-  -- call places
-  pub room : (t : ℕ) → t ≡ h.table → 8 * t + 33 * (t / 1024 + 1) + 256 + steps g.procs ≤ length work
-  room t i =
-      let T = total g.shared g.procs in
-      let r = e.headed in
-      omega (arith, i, r.header.table, e.work_long, mul-add T 8 (2 ^ g.shared), le-mul_of_pos_right {m = 2 ^ g.shared} T (pow_pos g.shared), steps_total g.shared g.procs, steps_few g.shared (length g.procs) g.procs r.reads.procs, r.reads.most)
-
-  pub nodes_small : h.table ≤ 67108864
-  nodes_small = omega (arith, e.headed.header.table, small e.headed)
-
-  pub roomy : (m : Memory) → Divided m h.table (length work) → {bases : List ℕ} → Based s h bases → (starts : List ℕ) → length g.procs < length starts → Space s h bases starts m.words.now m.sets.now m.marks.now m.sites.now g
-  roomy m d b starts l =
-      let n = e.headed.header.table in
-      record {
-        room = record {
-          headed = e.headed;
-          based = b;
-          words_long = omega (arith, d.words, n);
-          sets_long = omega (arith, d.sets, n);
-          marks_long = omega (arith, d.marks, n);
-          marks_short = omega (arith, d.marks, nodes_small);
-          sites_long = omega (arith, room _ refl, d.sites);
-        };
-        starts_long = l;
-      }
+-- the parts of the work memory are long enough to solve in
+pub roomy : {s : List ℕ} {h : Header} {work : List ℕ} {g : Prog} → Lent s h work g → (m : Memory) → Divided m h.table (length work) → {bases : List ℕ} → Based s h bases → (starts : List ℕ) → length g.procs < length starts → Space s h bases starts m.words.now m.sets.now m.marks.now m.sites.now g
+roomy e m d b starts l =
+    let n = e.headed.header.table in
+    record {
+      room = record {
+        headed = e.headed;
+        based = b;
+        words_long = omega (arith, d.words, n);
+        sets_long = omega (arith, d.sets, n);
+        marks_long = omega (arith, d.marks, n);
+        marks_short = omega (arith, d.marks, nodes_small e.headed);
+        sites_long = omega (arith, wanted e.headed _ refl, e.work_long, d.sites);
+      };
+      starts_long = l;
+    }
 
 -- the sets of entries stand first
 inside_front : (g : List ℕ) (k t root : ℕ) (w front back : List ℕ) → w ≡ front ++ back → 2 * t ≤ length front → TellsInside g k t root w → TellsInside g k t root front

@@ -60,8 +60,8 @@ module _ {s : List ℕ} {h : Header} (g : Prog) (r : Headed s h g) (starts w : L
   pub starts_root : Starts w k h.table 0
   starts_root = subst (λ z. Starts w z h.table 0) (sym shared_is) (subst (λ z. Starts w (2 ^ g.shared) z 0) (sym r.header.table) (starts_at g starts w (good r.reads) r.reads.few (x g r)))
 
-  pub solved_at : (sets : List ℕ) → Tells w k h.table 0 sets → (n : ℕ) → n < total g.shared g.procs → Entries sets n ↔ ((bs : List ℕ) × pushdown.Reached (numbered g) 0 n bs)
-  solved_at sets t = solved g starts w (good r.reads) r.reads.few (x g r) sets (subst (λ z. Tells w (2 ^ g.shared) z 0 sets) r.header.table (subst (λ z. Tells w z h.table 0 sets) shared_is t))
-
   pub told_at : (sets : List ℕ) → Tells w k h.table 0 sets → Tells w (2 ^ g.shared) (total g.shared g.procs) 0 sets
   told_at sets t = subst (λ z. Tells w (2 ^ g.shared) z 0 sets) r.header.table (subst (λ z. Tells w z h.table 0 sets) shared_is t)
+
+  pub solved_at : (sets : List ℕ) → Tells w k h.table 0 sets → (n : ℕ) → n < total g.shared g.procs → Entries sets n ↔ ((bs : List ℕ) × pushdown.Reached (numbered g) 0 n bs)
+  solved_at sets t = solved g starts w (good r.reads) r.reads.few (x g r) sets (told_at sets t)

@@ -5,7 +5,7 @@ use Rattle.std.proofs.lemmas.Nat.{pow_pos}
 use Rattle.program.specs.declared.programs.Header.{Header}
 use Rattle.program.specs.Program.{nth, Proc, Prog}
 use Rattle.program.specs.Rows.{Every, OkP}
-use Rattle.program.specs.Table.{before, total, spot}
+use Rattle.program.specs.Table.{before, total, spot, wants}
 use Rattle.program.specs.Runs.{Can}
 use Rattle.program.specs.Numbers.{Fits}
 use Rattle.program.proofs.Spots.{spot_lt}
@@ -19,26 +19,30 @@ use Rattle.places.specs.Says.{Table}
 use Rattle.places.specs.Solving.{Tells, Written, Solved, Parts, Enough}
 
 -- there are few steps: no more than bytes of the table, and 255 for each procedure
-pub steps_total : (k : ℕ) (ps : List Proc) → steps ps ≤ total k ps
+steps_total : (k : ℕ) (ps : List Proc) → steps ps ≤ total k ps
 steps_total k [] = omega arith
 steps_total k (p ∷ ps) =
     let W = 2 ^ (k + p.own) in
     omega (arith, steps_total k ps, le-mul_of_pos_right {m = W} (length p.steps + 1) (pow_pos (k + p.own)))
 
-pub steps_few : (k m : ℕ) (ps : List Proc) → Every (OkP k m) ps → steps ps ≤ length ps * 255
+steps_few : (k m : ℕ) (ps : List Proc) → Every (OkP k m) ps → steps ps ≤ length ps * 255
 steps_few k m [] o = omega arith
 steps_few k m (p ∷ ps) o = omega (arith, steps_few k m ps o.1, o.0.short)
 
-module _ {s : List ℕ} {h : Header} {table work : List ℕ} {g : Prog} (e : Enough s h table work g) where
-  -- the parts of the work memory: words and sets of four words for each node, marks, and call places
-  pub room : (t : ℕ) → t ≡ h.table → 4 * t + (4 * t + (33 * (t / 1024 + 1) + steps g.procs)) ≤ length work
-  room t i =
+module _ {s : List ℕ} {h : Header} {g : Prog} (r : Headed s h g) where
+  -- a program wants words enough for the parts of the work memory: words and sets of four words for each node, marks,
+  -- two sets of entries, and call places
+  pub wanted : (t : ℕ) → t ≡ h.table → 8 * t + 33 * (t / 1024 + 1) + 256 + steps g.procs ≤ wants g
+  wanted t i =
       let T = total g.shared g.procs in
-      let r = e.headed in
-      omega (arith, i, r.header.table, e.work_long, mul-add T 8 (2 ^ g.shared), le-mul_of_pos_right {m = 2 ^ g.shared} T (pow_pos g.shared), steps_total g.shared g.procs, steps_few g.shared (length g.procs) g.procs r.reads.procs, r.reads.most)
+      omega (arith, i, r.header.table, mul-add T 8 (2 ^ g.shared), le-mul_of_pos_right {m = 2 ^ g.shared} T (pow_pos g.shared), steps_total g.shared g.procs, steps_few g.shared (length g.procs) g.procs r.reads.procs, r.reads.most)
 
   pub nodes_small : h.table ≤ 67108864
-  nodes_small = omega (arith, e.headed.header.table, small e.headed)
+  nodes_small = omega (arith, r.header.table, small r)
+
+module _ {s : List ℕ} {h : Header} {table work : List ℕ} {g : Prog} (e : Enough s h table work g) where
+  pub room : (t : ℕ) → t ≡ h.table → 4 * t + (4 * t + (33 * (t / 1024 + 1) + steps g.procs)) ≤ length work
+  room t i = omega (arith, wanted e.headed t i, e.work_long)
 
   pub parts : (bases : List ℕ) → Based s h bases → Parts bases h.procs (length table)
   parts bases b =

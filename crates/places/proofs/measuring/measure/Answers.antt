@@ -1,10 +1,11 @@
 -- `measure`: the parts of the work memory are long enough, and what solving leaves in them can be ranked.
 use Rattle.std.proofs.Common.{refl, arith}
-use Rattle.places.proofs.Ranking.{room, roomy, rankable}
+use Rattle.places.proofs.Ranking.{roomy, rankable}
+use Rattle.places.proofs.Telling.{wanted}
 use Rattle.places.proofs.measuring.measure.Goals as goal
 
 pub divide-words-requires : goal.divide-words-requires
-divide-words-requires c = omega (arith, room c.requires.1 _ refl)
+divide-words-requires c = omega (arith, wanted c.requires.1.headed _ refl, c.requires.1.work_long)
 
 pub settle-count-requires : goal.settle-count-requires
 settle-count-requires c = (c.requires.0, roomy c.requires.1 c.divide-words.result c.divide-words.ensures c.list_bases.ensures _ (omega (arith, c.requires.1.headed.reads.most)))

@@ -19,7 +19,7 @@ solve-requires c =
         words_long = omega (arith, c.split_at_mut-words.ensures.front_len, n);
         sets_long = omega (arith, c.split_at_mut-sets.ensures.front_len, n);
         marks_long = omega (arith, marks.front_len, n);
-        marks_short = omega (arith, marks.front_len, nodes_small e);
+        marks_short = omega (arith, marks.front_len, nodes_small e.headed);
         sites_long = omega (arith, room e _ refl, c.split_at_mut-words.ensures.back_len, c.split_at_mut-sets.ensures.back_len, marks.back_len);
       },
     )
