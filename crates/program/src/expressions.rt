@@ -2,29 +2,25 @@
 ghost use Rattle.program.specs.Reading.{ReadExpr};
 ghost use Rattle.program.specs.Values.{Has, Evals};
 
-use crate::bytes::{read_byte, read_number};
+use crate::bytes::{read_kind, read_number};
+use crate::kinds::ExpressionKind;
 use crate::refusals::{Reason, Refusal};
 
 // Where the expression at `at` ends, over variables below `vars`.
 pub fn read_expression(bytes: &[u8], at: usize, vars: usize) -> Result<usize, Refusal>
     ensures { ReadExpr vars bytes.now at result }
 {
-    let tag = read_byte(bytes, at)?;
-    match tag {
-        0 => Ok(at + 1),
-        1 => {
+    match read_kind(bytes, at)? {
+        ExpressionKind::Yes => Ok(at + 1),
+        ExpressionKind::Var => {
             let _var = read_number(bytes, at + 1, vars, Reason::NoSuchVariable)?;
             Ok(at + 2)
         }
-        2 => read_expression(bytes, at + 1, vars),
-        3 => {
+        ExpressionKind::Not => read_expression(bytes, at + 1, vars),
+        ExpressionKind::And => {
             let mid = read_expression(bytes, at + 1, vars)?;
             read_expression(bytes, mid, vars)
         }
-        4..=255 => Err(Refusal {
-            at,
-            reason: Reason::UnknownExpression,
-        }),
     }
 }
 
