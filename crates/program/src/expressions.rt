@@ -36,23 +36,26 @@ pub fn evaluate(bytes: &[u8], at: usize, values: u32) -> Valued
     requires { Has 32 bytes.now at }
     ensures { Evals bytes.now at values result }
 {
-    match bytes[at] {
-        0 => Valued {
+    let Ok(kind) = ExpressionKind::try_from(bytes[at]) else {
+        unreachable()
+    };
+    match kind {
+        ExpressionKind::Yes => Valued {
             holds: true,
             end: at + 1,
         },
-        1 => Valued {
+        ExpressionKind::Var => Valued {
             holds: (values >> bytes[at + 1]) % 2 == 1,
             end: at + 2,
         },
-        2 => {
+        ExpressionKind::Not => {
             let part = evaluate(bytes, at + 1, values);
             Valued {
                 holds: !part.holds,
                 end: part.end,
             }
         }
-        3 => {
+        ExpressionKind::And => {
             let left = evaluate(bytes, at + 1, values);
             let right = evaluate(bytes, left.end, values);
             Valued {
@@ -60,6 +63,5 @@ pub fn evaluate(bytes: &[u8], at: usize, values: u32) -> Valued
                 end: right.end,
             }
         }
-        4..=255 => unreachable(),
     }
 }
