@@ -22,7 +22,7 @@ pub fn read_number(bytes: &[u8], at: usize, limit: usize, reason: Reason) -> Res
     ensures { ReadNumber limit bytes.now at result }
 {
     let number = read_byte(bytes, at)?;
-    if (number as usize) < limit {
+    if usize::from(number) < limit {
         Ok(number)
     } else {
         Err(Refusal { at, reason })

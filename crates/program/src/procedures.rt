@@ -34,7 +34,7 @@ pub fn table_size(shared: u8, own: u8, steps: u8) -> usize
     ensures is { result ≡ (steps + 1) * 2 ^ (shared + own) }
     ensures small { result ≤ 2 ^ 20 }
 {
-    (steps as usize + 1) * values(shared + own)
+    (usize::from(steps) + 1) * values(shared + own)
 }
 
 // Where `count` steps from `at` on end.

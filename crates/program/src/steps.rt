@@ -88,7 +88,7 @@ pub fn read_step(bytes: &[u8], at: usize, scope: Scope) -> Result<Found, Refusal
             })
         }
         StepKind::Go => {
-            let places = scope.last.0 as usize + 1;
+            let places = usize::from(scope.last.0) + 1;
             let place = read_number(bytes, at + 1, places, Reason::NoSuchPlace)?;
             let past = read_expression(bytes, at + 2, scope.vars)?;
             Ok(Found {
