@@ -99,6 +99,7 @@ fn read_procedures(bytes: &[u8], shared: u8, procs: usize) -> Result<Tally, Refu
 }
 
 // The program that these bytes are.
+#[tactic(auto, using(crate::proofs::Prefix::one_program))]
 pub fn read(bytes: &[u8]) -> Result<Header, Refusal>
     ensures reads { ReadProgram bytes.now result }
     ensures one { OneProgram }

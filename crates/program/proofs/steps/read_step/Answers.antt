@@ -5,9 +5,6 @@ use Rattle.program.specs.Kinds.{byte_i}
 use Rattle.program.proofs.ReadingStep.{no_step, is_set, is_open, is_go, is_call, is_return}
 use Rattle.program.proofs.steps.read_step.Goals as goal
 
-pub returns-in_err-read_kind : goal.returns-in_err-read_kind
-returns-in_err-read_kind c = let p = err_from_is_err_and c.from_residual.result c.from_residual.ensures.1 in rw p.1 (no_step _ _ _ c.in_err-read_kind.ensures)
-
 pub returns-in_ok-end-in-Set : goal.returns-in_ok-end-in-Set
 returns-in_ok-end-in-Set c = is_set _ _ _ _ c.in_ok-read_kind.ensures.1 _ _ (c.in_ok-read_kind.ensures.2 ∙ ap byte_i c.in-Set.is) c.in_ok-var-in-Set.ensures c.in_ok-end-in-Set.ensures
 
