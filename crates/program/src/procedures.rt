@@ -39,6 +39,7 @@ pub fn table_size(shared: u8, own: u8, steps: u8) -> usize
 }
 
 // Where `count` steps from `at` on end.
+#[tactic(auto, using(crate::proofs::ReadingProc::steps_more))]
 fn read_steps(bytes: &[u8], at: usize, count: u8, scope: Scope) -> Result<usize, Refusal>
     requires { at ≤ length bytes.now }
     ensures { ReadSteps scope bytes.now count at result }
