@@ -41,7 +41,6 @@ pub record Called (g : Prog) (m r f : ℕ) (p : Proc) (a v : ℕ) : Type 0 where
   pub there : nth g.procs d ≡ some q
   pub step : nth p.steps a ≡ some (call d)
   pub callee : m ≡ loc g d q 0 (v % 2 ^ g.shared)
-  pub waiter : r ≡ loc g f p (a + 1) (v / 2 ^ g.shared * 2 ^ g.shared)
   pub resumed : (x : ℕ) → x < 2 ^ g.shared → Loc g (r + x) f p (a + 1) (v / 2 ^ g.shared * 2 ^ g.shared + x)
 
 -- a procedure begins in the table, with any shared values
@@ -96,7 +95,6 @@ module _ {g : Prog} (w : Good g) where
           there = q.1;
           step = i;
           callee = callee_of e ∙ at0;
-          waiter = waiter_of e;
           resumed = λ x l. record { there = h.there; place = omega (arith, nth_lt p.steps a (call d) i); small = shared_lt g.shared p.own v x h.small l; is = ap (λ z. z + x) (waiter_of e) ∙ inner x };
         }
 

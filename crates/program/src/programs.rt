@@ -76,6 +76,7 @@ struct Tally {
 }
 
 // The procedures from byte 1 to the end, each of which may call those below `procs`.
+#[tactic(auto, using(crate::proofs::ReadingProgram::procs_more))]
 fn read_procedures(bytes: &[u8], shared: u8, procs: usize) -> Result<Tally, Refusal>
     requires { (1 ≤ length bytes.now) × (shared ≤ 6) }
     ensures { ReadProcs shared procs bytes.now 1 64 (record { count = 0; table = 0 }) result }
@@ -99,7 +100,7 @@ fn read_procedures(bytes: &[u8], shared: u8, procs: usize) -> Result<Tally, Refu
 }
 
 // The program that these bytes are.
-#[tactic(auto, using(crate::proofs::Prefix::one_program))]
+#[tactic(auto, using(crate::proofs::Prefix::one_program, crate::proofs::ReadingProgram::no_first))]
 pub fn read(bytes: &[u8]) -> Result<Header, Refusal>
     ensures reads { ReadProgram bytes.now result }
     ensures one { OneProgram }

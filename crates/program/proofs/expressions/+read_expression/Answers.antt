@@ -1,7 +1,7 @@
 use Rattle.std.proofs.Common.{ap, ◌∙◌}
 use Rattle.std.proofs.lemmas.Result.{err_from_is_err_and}
 use Rattle.program.specs.Kinds.{byte_e}
-use Rattle.program.proofs.ReadingExpr.{no_expr, is_var, no_var, is_not, no_and, is_and}
+use Rattle.program.proofs.ReadingExpr.{no_expr, is_var}
 use Rattle.program.proofs.expressions.+read_expression.Goals as goal
 
 pub returns-in_err-read_kind : goal.returns-in_err-read_kind
