@@ -12,7 +12,7 @@ pub good : {s : List ℕ} {g : Prog} → Reads s g → Good g
 good r = record { some_proc = r.some; procs = r.procs }
 
 pub nth_lt : {A : Type 0} (l : List A) (n : ℕ) (x : A) → nth l n ≡ some x → n < length l
-nth_lt [] n x e = let z : ◌≡◌ {A = ℕ} 0 1 = cc in absurd (omega arith)
+nth_lt [] n x e = absurd cc
 nth_lt (y ∷ l) zero x e = omega arith
 nth_lt (y ∷ l) (suc n) x e = omega (arith, nth_lt l n x e)
 

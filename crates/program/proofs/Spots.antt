@@ -14,12 +14,12 @@ use Rattle.program.proofs.Nums.{num_bits, num_lt, num_append, num_inj, length_bi
 
 -- place i within procedure f, in a list of procedures
 pub before_lt : (k : ℕ) (ps : List Proc) (f : ℕ) (p : Proc) (i : ℕ) → nth ps f ≡ some p → i < size k p → before k ps f + i < total k ps
-before_lt k [] f p i e h = let z : ◌≡◌ {A = ℕ} 0 1 = cc in absurd (omega arith)
+before_lt k [] f p i e h = absurd cc
 before_lt k (q ∷ ps) zero p i e h = let r : size k q ≡ size k p = cc in omega arith
 before_lt k (q ∷ ps) (suc f) p i e h = omega (arith, before_lt k ps f p i e h)
 
 pub before_inj : (k : ℕ) (ps : List Proc) (f f' : ℕ) (p p' : Proc) (i i' : ℕ) → nth ps f ≡ some p → nth ps f' ≡ some p' → i < size k p → i' < size k p' → before k ps f + i ≡ before k ps f' + i' → (f ≡ f') × (i ≡ i')
-before_inj k [] f f' p p' i i' e e' h h' same = let z : ◌≡◌ {A = ℕ} 0 1 = cc in absurd (omega arith)
+before_inj k [] f f' p p' i i' e e' h h' same = absurd cc
 before_inj k (q ∷ ps) zero zero p p' i i' e e' h h' same = (refl, omega arith)
 before_inj k (q ∷ ps) zero (suc f') p p' i i' e e' h h' same = let r : size k q ≡ size k p = cc in absurd (omega arith)
 before_inj k (q ∷ ps) (suc f) zero p p' i i' e e' h h' same = let r : size k q ≡ size k p' = cc in absurd (omega arith)
