@@ -58,12 +58,12 @@ module _ {e f g : Engine} {c n : ℕ} (d : Drained e f c) (s : Still f g) (tk : 
   }
 
   -- and it was no node's
-  pub drained_pass : e.system.nodes ≤ n → Drained e g c
+  pub drained_pass : f.system.nodes ≤ n → Drained e g c
   drained_pass b = record {
     kept = kept_both d.kept s.kept;
     bits = λ i y q. subst (λ w. Bit w i y) (sym s.same) (d.bits i y q);
     sound = λ root q. subst (λ w. Sound e.system.graph.now e.system.shared e.system.nodes root w) (sym s.same) (d.sound root q);
-    covered = λ q n h. subst (λ w. Covered e.system.graph.now e.system.shared e.system.nodes w g.marks.now n) (sym s.same) (covered_past tk b (d.covered q) n h);
+    covered = λ q j h. subst (λ w. Covered e.system.graph.now e.system.shared e.system.nodes w g.marks.now j) (sym s.same) (covered_past tk (subst (λ y. y.nodes ≤ n) d.kept.system b) (d.covered q) j h);
     summary = λ q. summary_take tk (d.summary q);
     size = same_size d.size tk.size;
     less = λ len q. subst (λ w. remaining len w g.marks.now ≤ remaining len e.sets.now e.marks.now) (sym s.same) (let z : total g.marks.now.words ≡ total f.marks.now.words = ap total tk.words in omega (arith, tk.nodes.less, d.less len q));

@@ -79,6 +79,7 @@ pub record NodeTaken (m m' : Levels) (c n : ℕ) : Type 0 where
 
 -- the mark of the word at c has been taken away, and its nodes' marks stand
 pub record WordTaken (m m' : Levels) (c : ℕ) : Type 0 where
+  pub within : (c < length m.nodes) × (c / 32 < length m.words)
   pub words : (i : ℕ) × Taken m.words m'.words i c
   pub nodes : m'.nodes ≡ m.nodes
   pub size : SameSize m m'

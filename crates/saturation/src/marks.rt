@@ -1,6 +1,6 @@
 // Marks of the nodes that are still to be visited, on two levels: a bit for each node, and a bit for each word of those that is not 0.
-ghost use Rattle.std.specs.Prelude.{◌≡◌, ℕ, ◌*◌, ◌/◌, ◌^◌, ◌<◌, ◌≤◌, true, false, length, slice_index, MatchOption};
-ghost use Rattle.saturation.specs.Marks.{Set, Marked, Taken, NodeTaken, WordTaken, Clear};
+ghost use Rattle.std.specs.Prelude.{◌≡◌, ℕ, ◌*◌, ◌/◌, ◌^◌, ◌<◌, ◌≤◌, true, length, slice_index, MatchOption};
+ghost use Rattle.saturation.specs.Marks.{Set, Marked, Taken, SameSize, NodeTaken, WordTaken, Clear};
 
 use crate::bits::merge;
 use std::marker::Model;
@@ -30,17 +30,18 @@ fn set(words: &mut [u32], n: usize)
     merge(words, n / 32, 1 << (31 - n % 32));
 }
 
-// Takes the first mark of the word at `i` away; returns the number that it was of.
-fn take(words: &mut [u32], i: usize) -> usize
-    requires within { i < length words.old }
-    requires some { 0 < slice_index words.old i }
-    requires short { length words.old < 2 ^ 40 }
-    ensures { Taken words.old words.new i result }
+// Takes the first mark of the word at `i` away: the number that it was of, or none if the word is 0.
+fn take(words: &mut [u32], i: usize) -> Option<usize>
+    requires { (i < length words.old) × (length words.old < 2 ^ 40) }
+    ensures { MatchOption result ((slice_index words.old i ≡ 0) × (words.new ≡ words.old)) (λ n. Taken words.old words.new i n) }
 {
     let word = words[i];
+    if word == 0 {
+        return None;
+    }
     let zeros = word.leading_zeros();
     words[i] = word - (1 << (31 - zeros));
-    32 * i + zeros as usize
+    Some(32 * i + zeros as usize)
 }
 
 // The first word that has a mark.
@@ -73,37 +74,16 @@ impl<'m> Marks<'m> {
         set(self.words, n / 32);
     }
 
-    // Takes the mark of the first marked node of the word at `word` away; returns the node.
-    pub(crate) fn take_node(&mut self, word: usize) -> usize
-        requires within { word < length self.old.nodes }
-        requires some { 0 < slice_index self.old.nodes word }
-        ensures { NodeTaken self.old self.new word result }
+    // Takes the mark of the first marked node of the word at `word` away: the node, or none.
+    pub(crate) fn take_node(&mut self, word: usize) -> Option<usize>
+        requires { word < length self.old.nodes }
+        ensures { MatchOption result ((slice_index self.old.nodes word ≡ 0) × (self.new ≡ self.old)) (λ n. NodeTaken self.old self.new word n) }
     {
         take(self.nodes, word)
     }
 
-    // Takes the mark of the first marked word of the word of those at `i` away; returns the word's place.
-    pub(crate) fn take_word(&mut self, i: usize) -> usize
-        requires within { i < length self.old.words }
-        requires some { 0 < slice_index self.old.words i }
-        ensures within { result < length self.old.nodes }
-        ensures taken { WordTaken self.old self.new result }
-    {
-        take(self.words, i)
-    }
-
-    // Whether a node of the word at `word` is marked.
-    pub(crate) fn has_node(&self, word: usize) -> bool
-        requires { word < length self.now.nodes }
-        ensures yes { result ≡ true → 0 < slice_index self.now.nodes word }
-        ensures no { result ≡ false → slice_index self.now.nodes word ≡ 0 }
-    {
-        let nodes = &self.nodes;
-        nodes[word] != 0
-    }
-
-    // A place where words are marked: the first from `at` on, or else the first of all.
-    pub(crate) fn pick(&self, at: usize) -> Option<usize>
+    // A word of the words' marks that is not 0: the first from `at` on, or else the first of all.
+    fn pick(&self, at: usize) -> Option<usize>
         requires { at ≤ length self.now.words }
         ensures { MatchOption result ((i : ℕ) → slice_index self.now.words i ≡ 0) (λ i. (i < length self.now.words) × (0 < slice_index self.now.words i)) }
     {
@@ -113,5 +93,16 @@ impl<'m> Marks<'m> {
             Some(i) => Some(at + i),
             None => first_marked(passed),
         }
+    }
+
+    // Takes the mark of a word of nodes' marks away: the word's place, or none if no word is marked. `at` is where to
+    // look first.
+    pub(crate) fn take_word(&mut self, at: usize) -> Option<usize>
+        requires { at ≤ length self.old.words }
+        ensures size { SameSize self.old self.new }
+        ensures taken { MatchOption result ((i : ℕ) → slice_index self.old.words i ≡ 0) (λ c. WordTaken self.old self.new c) }
+    {
+        let i = self.pick(at)?;
+        take(self.words, i)
     }
 }
