@@ -84,10 +84,8 @@ impl Engine<'_, '_, '_, '_, '_> {
         ensures still { Still self.old self.new }
         ensures revisited { PlaceRevisited self.old.system.shared self.old.sets.now self.old.marks.now self.new.marks.now place.start place.end x }
     {
-        let mut n = place.start + x;
-        while n < place.end {
+        for n in (place.start + x..place.end).step_by(self.system.shared) {
             self.revisit(n);
-            n += self.system.shared;
         }
     }
 

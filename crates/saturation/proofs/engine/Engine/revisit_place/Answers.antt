@@ -8,5 +8,9 @@ pub loop-n-init : goal.loop-n-init
 loop-n-init c = (still_none _, place_none c.args.self.now.system.shared c.args.self.now.sets.now c.args.self.now.marks.now c.args.place.start c.args.x c.requires.value c.requires.even)
 
 pub loop-n-preserved : goal.loop-n-preserved
-loop-n-preserved c = let v = c.revisit.ensures in let s = still_both c.loop-n.invariant.0 v.still in
-    (s, rw s.kept.system (place_more c.loop-n.n (omega arith) c.loop-n.invariant.1 (rw c.loop-n.invariant.0.same at v.revisited)))
+loop-n-preserved c = let v = c.revisit.ensures in
+    (still_both c.loop-n.invariant.0 v.still, place_more c.loop-n.n (omega arith) c.loop-n.invariant.1 (rw c.loop-n.invariant.0.same at v.revisited))
+
+pub returns-2-clause-revisited : goal.returns-2-clause-revisited
+returns-2-clause-revisited c = let p = place_more c.loop-n.n (omega arith) c.loop-n.invariant.1 (rw c.loop-n.invariant.0.same at c.revisit.ensures.revisited) in
+    record { kept = p.kept; got = λ j a b. p.got j a (omega arith) }

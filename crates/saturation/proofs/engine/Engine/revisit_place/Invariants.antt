@@ -5,7 +5,7 @@ use Rattle.saturation.proofs.Sites.{PlacePassed}
 use Rattle.saturation.proofs.engine.Engine.revisit_place.Given as goal
 
 abbrev pub invariant-loop-n : goal.invariant-loop-n
-invariant-loop-n l = Still l.initial.self l.self × PlacePassed l.initial.self.system.shared l.initial.self.sets.now l.initial.self.marks.now l.self.marks.now l.place.start l.x l.n
+invariant-loop-n l = Still l.initial.self l.self × PlacePassed l.n-step l.initial.self.sets.now l.initial.self.marks.now l.self.marks.now l.fn.place.start l.x l.n
 
 abbrev pub decreases-loop-n : goal.decreases-loop-n
-decreases-loop-n l = l.place.end - l.n
+decreases-loop-n l = l.n-end - l.n
