@@ -1,5 +1,5 @@
 -- The nodes of a word of marks, visited one after another.
-use Rattle.std.proofs.Common.{◌≡◌, ℕ, ◌+◌, ◌<◌, ◌≤◌, Bool, List, length, get_or, sym, refl, ap, ◌∙◌, subst, inl, inr, arith}
+use Rattle.std.proofs.Common.{◌≡◌, ℕ, ◌+◌, ◌<◌, ◌≤◌, List, length, get_or, sym, refl, ap, ◌∙◌, subst, inl, inr, arith}
 use Rattle.std.proofs.lemmas.Bool.{cases_Bool}
 use Rattle.saturation.specs.declared.System.{System}
 use Rattle.saturation.specs.declared.engine.Engine.{Engine}
@@ -35,18 +35,18 @@ drained_none e c = record {
 -- a mark is taken away
 module _ {e f g : Engine} {c n : ℕ} (d : Drained e f c) (s : Still f g) (tk : NodeTaken f.marks.now g.marks.now c n) where
   -- and its node visited
-  visit_of : {h : Engine} {new : Bool} → Visited g h n new → Visit e.system.graph.now e.system.shared e.system.nodes n f.sets.now g.marks.now h.sets.now h.marks.now new
-  visit_of {h} {new} v =
-      subst (λ w. Visit e.system.graph.now e.system.shared e.system.nodes n w g.marks.now h.sets.now h.marks.now new) s.same
-      (subst (λ y. Visit y.graph.now y.shared y.nodes n g.sets.now g.marks.now h.sets.now h.marks.now new) (s.kept.system ∙ d.kept.system) v.visit)
+  visit_of : {h : Engine} (v : Visited g h n) → Visit e.system.graph.now e.system.shared e.system.nodes n f.sets.now g.marks.now h.sets.now h.marks.now v.new
+  visit_of {h} v =
+      subst (λ w. Visit e.system.graph.now e.system.shared e.system.nodes n w g.marks.now h.sets.now h.marks.now v.new) s.same
+      (subst (λ y. Visit y.graph.now y.shared y.nodes n g.sets.now g.marks.now h.sets.now h.marks.now v.new) (s.kept.system ∙ d.kept.system) v.visit)
 
-  size_of : {h : Engine} {new : Bool} → Visited g h n new → SameSize e.marks.now h.marks.now
+  size_of : {h : Engine} → Visited g h n → SameSize e.marks.now h.marks.now
   size_of v = same_size d.size (same_size tk.size (visit_of v).progress.kept.size)
 
-  pub drain_less : {h : Engine} {new : Bool} (len : ℕ) → length e.marks.now.nodes + length e.marks.now.words ≡ len → Visited g h n new → remaining len h.sets.now h.marks.now < remaining len f.sets.now f.marks.now
+  pub drain_less : {h : Engine} (len : ℕ) → length e.marks.now.nodes + length e.marks.now.words ≡ len → Visited g h n → remaining len h.sets.now h.marks.now < remaining len f.sets.now f.marks.now
   drain_less len q v = let z = size_of v in visit_less tk len (omega (arith, z.nodes, z.words)) (visit_of v)
 
-  pub drained_visit : {h : Engine} {new : Bool} → Visited g h n new → Drained e h c
+  pub drained_visit : {h : Engine} → Visited g h n → Drained e h c
   drained_visit v = let p = visit_of v in record {
     kept = kept_both d.kept (kept_both s.kept v.kept);
     bits = λ i y q. p.progress.grew.kept i y (d.bits i y q);
@@ -106,10 +106,10 @@ pub swept : {s : System} {root : ℕ} {w : List ℕ} {m : Levels} → Fine s.gra
 swept {m = m} fine b z = tells fine b.sound.starts (λ n h. elim (b.covered n h) [ inl d ↦ d | inr o ↦ absurd (none_marked m b.summary z n o) ]) b.root_on b.sound
 
 -- the entry alone is set, and marked
-pub begun_first : {e f : Engine} {root many : ℕ} {new : Bool} → Fine e.system.graph.now e.system.shared e.system.nodes → Starts e.system.graph.now e.system.shared e.system.nodes root →
-    ((i : ℕ) → i < length e.sets.now → get_or e.sets.now i 0 ≡ 0) → Clear e.marks.now many → Inserted e f root 0 new → Begun f.system root f.sets.now f.marks.now
-begun_first {e} {f} {root} {new = new} fine starts z clear i =
-    let o : In f.marks.now root = elim (cases_Bool new) [
+pub begun_first : {e f : Engine} {root many : ℕ} → Fine e.system.graph.now e.system.shared e.system.nodes → Starts e.system.graph.now e.system.shared e.system.nodes root →
+    ((i : ℕ) → i < length e.sets.now → get_or e.sets.now i 0 ≡ 0) → Clear e.marks.now many → Inserted e f root 0 → Begun f.system root f.sets.now f.marks.now
+begun_first {e} {f} {root} fine starts z clear i =
+    let o : In f.marks.now root = elim (cases_Bool i.new) [
       | inl y ↦ i.marked.got y
       | inr y ↦ absurd (no_bits e.sets.now z _ _ (subst (λ w. On w root 0) (i.grew.same y) i.added.got))
     ] in

@@ -124,18 +124,16 @@ module _ {g : List ℕ} {k t : ℕ} (fine : Fine g k t) (n : ℕ) (h : n < t) wh
     closed = closed_call z (λ x b o. r.progress.grew.kept _ _ a.got) r.closed;
   }
 
+-- nothing is done
+pub grew_none : (w : List ℕ) → Grew w w false
+grew_none w = record { kept = λ i y o. o; same = λ _. refl; less = λ e. absurd (true≢false (sym e)) }
+
+pub progress_none : {g : List ℕ} {k t : ℕ} {w : List ℕ} (m : Levels) → Progress g k t w m w m false
+progress_none {w = w} m = record { grew = grew_none w; same = λ _. refl; sound = λ root s. s; covered = λ j h s. s; kept = more_none m }
+
 -- a node with no bit needs no visit
 pub visit_none : {g : List ℕ} {k t : ℕ} (n : ℕ) {w : List ℕ} (m : Levels) → Fine g k t → Empty w n → Visit g k t n w m w m false
-visit_none n m fine f = record {
-  progress = record {
-    grew = record { kept = λ i y o. o; same = λ _. refl; less = λ e. absurd (true≢false (sym e)) };
-    same = λ _. refl;
-    sound = λ root s. s;
-    covered = λ j h s. s;
-    kept = more_none m;
-  };
-  closed = closed_empty fine n f;
-}
+visit_none n m fine f = record { progress = progress_none m; closed = closed_empty fine n f }
 
 -- the beginning: only the root waits
 pub covered_first : {g : List ℕ} {k t root : ℕ} {z u : List ℕ} (m : Levels) → Fine g k t → ((i : ℕ) → i < length z → get_or z i 0 ≡ 0) → Added z u root 0 → In m root → (n : ℕ) → n < t → Covered g k t u m n

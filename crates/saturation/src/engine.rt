@@ -24,27 +24,23 @@ impl Engine<'_, '_, '_, '_, '_> {
     ghost use Rattle.saturation.specs.Steps.{Kept, Still, Propagated, Inserted, Drained};
 
     // The bits of node `from` go into node `to`, which is marked if one was new.
-    pub(crate) fn propagate(&mut self, from: usize, to: usize) -> bool
+    pub(crate) fn propagate(&mut self, from: usize, to: usize)
         requires { (from < self.old.system.nodes) × (to < self.old.system.nodes) }
-        ensures { Propagated self.old self.new from to result }
+        ensures { Propagated self.old self.new from to }
     {
-        let new = join(self.sets, from, to);
-        if new {
+        if join(self.sets, from, to) {
             self.marks.mark(to);
         }
-        new
     }
 
     // Sets bit `x` of node `n`, which is marked if that was new.
-    pub(crate) fn insert(&mut self, n: usize, x: usize) -> bool
+    pub(crate) fn insert(&mut self, n: usize, x: usize)
         requires { (n < self.old.system.nodes) × (x < 64) }
-        ensures { Inserted self.old self.new n x result }
+        ensures { Inserted self.old self.new n x }
     {
-        let new = add(self.sets, n, x);
-        if new {
+        if add(self.sets, n, x) {
             self.marks.mark(n);
         }
-        new
     }
 
     // Whether bit `x` of node `n` is set.

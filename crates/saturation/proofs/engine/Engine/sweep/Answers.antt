@@ -1,6 +1,6 @@
 -- `sweep`: all bits are true, and each node is closed or marked; at the end none is marked.
 use Rattle.std.proofs.Common.{refl, arith}
-use Rattle.saturation.proofs.Draining.{still_of, sweep_kept, sweep_begun, sweep_less, sweep_size, swept}
+use Rattle.saturation.proofs.Draining.{still_of, sweep_kept, sweep_begun, sweep_size, swept}
 use Rattle.saturation.proofs.engine.Engine.sweep.Goals as goal
 
 pub drain-requires : goal.drain-requires
