@@ -12,3 +12,7 @@ loop-y-preserved c = let p = c.requires.is in let o = c.loop-y.invariant in elim
       simp w.self-is (record { kept = kept_both o.kept v.kept; new = o.new || v.new; progress = r.0; closed = r.1 })
   | else-has w ↦ simp w.self-is (record { kept = o.kept; new = o.new; progress = o.progress; closed = below_more (λ j. ResumeClosed c.args.self.now.system.graph.now c.args.self.now.system.shared c.args.self.now.system.nodes c.args.n j c.loop-y.self.sets.now) c.loop-y.y o.closed (λ x b h a. absurd (w.if-has.ensures.no refl (rw p.1 a))) })
 ]
+
+-- the check finds this alone: written out, it names the values that a loop over fewer would leave out
+pub returns : goal.returns
+returns c = let o = c.loop-y.invariant in record { kept = o.kept; new = o.new; resume = record { progress = o.progress; closed = λ y b. o.closed y (omega arith) } }
