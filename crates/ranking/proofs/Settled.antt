@@ -1,6 +1,7 @@
 -- What removing one call leaves, put together; and removals one after another.
 use Rattle.std.proofs.Common.{◌≡◌, ℕ, ◌+◌, ◌-◌, ◌<◌, Bool, List, length, get_or, set, sym, refl, ap, ◌∙◌, subst, inl, inr, arith}
 use Rattle.std.proofs.lemmas.List.{get_or-set_same}
+use Rattle.std.proofs.lemmas.Bool.{cases_eq}
 use Rattle.saturation.specs.declared.System.{System}
 use Rattle.saturation.specs.Bits.{On, Grew, Added}
 use Rattle.saturation.specs.Marks.{Removed}
@@ -9,10 +10,11 @@ use Rattle.ranking.specs.declared.Procedures.{Procedures}
 use Rattle.ranking.specs.Calls.{CallAt, callee}
 use Rattle.ranking.specs.Counting.{Counts, Counted}
 use Rattle.ranking.specs.Levels.{Known, Settles}
+use Rattle.ranking.proofs.Facts.{Facts}
 use Rattle.ranking.proofs.Tallies.{counts_zero, counts_some}
-use Rattle.ranking.proofs.Settling.{some_left, settle_counted, settle_level, settle_waiting}
+use Rattle.ranking.proofs.Settling.{settle_counted, settle_level, settle_waiting}
 
-module _ {s : System} {p : Procedures} {w c next : List ℕ} (known : Known s p w c next) (counted : Counted s.graph.now s.shared s.nodes w s.nodes c) {n x : ℕ} (within : n < s.nodes) (b : x < s.shared) (calls : kind s.graph.now n ≡ 1) (has : On w n x) where
+module _ {s : System} {p : Procedures} {w c next : List ℕ} (known : Facts s p w c next) (counted : Counted s.graph.now s.shared s.nodes w s.nodes c) {n x : ℕ} (within : n < s.nodes) (b : x < s.shared) (calls : kind s.graph.now n ≡ 1) (has : On w n x) where
   abbrev g : List ℕ
   g = s.graph.now
 
@@ -22,10 +24,13 @@ module _ {s : System} {p : Procedures} {w c next : List ℕ} (known : Known s p 
   pub in_counts : entry < length c
   in_counts = omega (arith, known.countable.fine.procs n within, known.countable.counts_long)
 
-  module _ {v : List ℕ} (gone : Removed w v n x) where
-    pub counts_pos : 0 < get_or c entry 0
-    counts_pos = some_left known.countable.aligned known.countable.fine.few within b calls has gone c counted
+  pub counts_pos : 0 < get_or c entry 0
+  counts_pos = elim (cases_eq (get_or c entry 0) 0) [
+    | inl e ↦ absurd (counts_zero (counted n x within b) e n within (record { within = within; calls = calls; whose = refl; has = has }))
+    | inr e ↦ omega (arith, e)
+  ]
 
+  module _ {v : List ℕ} (gone : Removed w v n x) where
     module _ (z : ℕ) (is : z ≡ get_or c entry 0 - 1) where
       now_counted : Counted g s.shared s.nodes v s.nodes (set c entry z)
       now_counted = settle_counted known.countable.aligned known.countable.fine.few within b calls has gone c z in_counts is counted
@@ -34,12 +39,11 @@ module _ {s : System} {p : Procedures} {w c next : List ℕ} (known : Known s p 
       own_count = subst (Counts (CallAt g s.nodes v (proc g n) x) s.nodes) (get_or-set_same c entry z 0 in_counts) (now_counted n x within b)
 
       -- its last call: the entry is of the next level
-      pub settles_last : z ≡ 0 → {after : List ℕ} {new : Bool} (f : ℕ) → f < p.count → get_or p.bases.now f 0 ≡ proc g n → Added next after f x → Grew next after new → Settles s p (λ d. d ≡ callee g s.shared n) w next v (set c entry z) after
+      pub settles_last : z ≡ 0 → {after : List ℕ} {new : Bool} (f : ℕ) → f < length p.bases.now → get_or p.bases.now f 0 ≡ proc g n → Added next after f x → Grew next after new → Settles s p (λ d. d ≡ callee g s.shared n) w next v after
       settles_last zero {after} f hf base add grew = record {
-        counted = now_counted;
         fewer = gone.only;
-        waiting = settle_waiting known.countable.aligned known.countable.fine.few within b calls has gone p.bases.now p.count next after (λ h y q. grew.kept _ _ q) (inr (λ h hh e. subst (λ i. On after i x) (known.grouped.apart f h hf hh (base ∙ sym e)) add.got));
-        level = λ o r tall. settle_level known.countable.aligned known.countable.fine.few within b calls has gone p.bases.now p.count next after
+        waiting = settle_waiting known.countable.aligned known.countable.fine.few within b calls has gone p.bases.now next after (λ h y q. grew.kept _ _ q) (inr (λ h hh e. subst (λ i. On after i x) (known.apart f h hf hh (base ∙ sym e)) add.got));
+        level = λ o r tall. settle_level known.countable.aligned known.countable.fine.few within b calls has gone p.bases.now next after
             (λ h y hh hy q. elim (add.only h y (omega (arith, known.countable.fine.few)) q) [
               | inl u ↦ inl u
               | inr u ↦ inr (none_left, ap (λ i. get_or p.bases.now i 0) u.0 ∙ base, u.1)
@@ -52,22 +56,26 @@ module _ {s : System} {p : Procedures} {w c next : List ℕ} (known : Known s p 
           none_left i q = counts_zero own_count zero i q.within q
 
       -- others are left
-      pub settles_more : (z ≡ 0 → ⊥) → Settles s p (λ d. d ≡ callee g s.shared n) w next v (set c entry z) next
+      pub settles_more : (z ≡ 0 → ⊥) → Settles s p (λ d. d ≡ callee g s.shared n) w next v next
       settles_more some = record {
-        counted = now_counted;
         fewer = gone.only;
-        waiting = settle_waiting known.countable.aligned known.countable.fine.few within b calls has gone p.bases.now p.count next next (λ h y q. q) (let r = counts_some own_count (omega (arith, some)) in inl (r.0, r.2));
-        level = λ o r tall. settle_level known.countable.aligned known.countable.fine.few within b calls has gone p.bases.now p.count next next (λ h y hh hy q. inl q) o r (tall _ refl);
+        waiting = settle_waiting known.countable.aligned known.countable.fine.few within b calls has gone p.bases.now next next (λ h y q. q) (let r = counts_some own_count (omega (arith, some)) in inl (r.0, r.2));
+        level = λ o r tall. settle_level known.countable.aligned known.countable.fine.few within b calls has gone p.bases.now next next (λ h y hh hy q. inl q) o r (tall _ refl);
         less = inr gone.less;
       }
 
-module _ {s : System} {p : Procedures} {D : ℕ → Type 0} where
-  pub settles_none : {w c next : List ℕ} → Counted s.graph.now s.shared s.nodes w s.nodes c → Settles s p D w next w c next
-  settles_none h = record { counted = h; fewer = λ n x q. q; waiting = λ f x hf hx q. q; level = λ o r tall l. l; less = inl (refl, omega arith) }
+  -- the counts stay right, wherever the procedure's beginning was read
+  pub still_counted : {base z : ℕ} {v c' : List ℕ} → Removed w v n x → base ≡ proc g n → z ≡ get_or c (base + x) 0 - 1 → c' ≡ set c (base + x) z → Counted g s.shared s.nodes v s.nodes c'
+  still_counted {base} {z} {v} {c'} gone e is set_is =
+      let there : z ≡ get_or c entry 0 - 1 = subst (λ i. z ≡ get_or c (i + x) 0 - 1) e is in
+      subst (Counted g s.shared s.nodes v s.nodes) (sym (set_is ∙ ap (λ i. set c (i + x) z) e)) (now_counted gone z there)
 
-  pub settles_then : {w next v c₁ mid u c₂ after : List ℕ} → Settles s p D w next v c₁ mid → Settles s p D v mid u c₂ after → Settles s p D w next u c₂ after
+module _ {s : System} {p : Procedures} {D : ℕ → Type 0} where
+  pub settles_none : {w next : List ℕ} → Settles s p D w next w next
+  settles_none = record { fewer = λ n x q. q; waiting = λ f x hf hx q. q; level = λ o r tall l. l; less = inl (refl, omega arith) }
+
+  pub settles_then : {w next v mid u after : List ℕ} → Settles s p D w next v mid → Settles s p D v mid u after → Settles s p D w next u after
   settles_then a b = record {
-    counted = b.counted;
     fewer = λ n x q. a.fewer n x (b.fewer n x q);
     waiting = λ f x hf hx q. b.waiting f x hf hx (a.waiting f x hf hx q);
     level = λ o r tall l. b.level o r tall (a.level o r tall l);
@@ -78,8 +86,8 @@ module _ {s : System} {p : Procedures} {D : ℕ → Type 0} where
   }
 
 -- the same, of more entries
-pub settles_of : {s : System} {p : Procedures} {D E : ℕ → Type 0} {w next v c after : List ℕ} → ((d : ℕ) → D d → E d) → Settles s p D w next v c after → Settles s p E w next v c after
-settles_of f a = record { counted = a.counted; fewer = a.fewer; waiting = a.waiting; level = λ o r tall. a.level o r (λ d q. tall d (f d q)); less = a.less }
+pub settles_of : {s : System} {p : Procedures} {D E : ℕ → Type 0} {w next v after : List ℕ} → ((d : ℕ) → D d → E d) → Settles s p D w next v after → Settles s p E w next v after
+settles_of f a = record { fewer = a.fewer; waiting = a.waiting; level = λ o r tall. a.level o r (λ d q. tall d (f d q)); less = a.less }
 
 -- the lengths that are asked for are kept
 pub known_still : {s : System} {p : Procedures} {w c next : List ℕ} (w' c' next' : List ℕ) → Known s p w c next → length w' ≡ length w → length c' ≡ length c → length next' ≡ length next → Known s p w' c' next'

@@ -11,11 +11,8 @@ ghost use Rattle.saturation.specs.System.{Starts, TellsInside};
 ghost use Rattle.ranking.specs.Levels.{Known};
 ghost use Rattle.ranking.specs.Ranks.{Ranked};
 
-use counts::count_calls;
-use first::{first_level, is_clear};
-use levels::settle_level;
+use levels::Ranker;
 use saturation::System;
-use saturation::bits::has;
 
 mod counts;
 mod first;
@@ -27,19 +24,18 @@ mod levels;
 pub struct Procedures<'b, 's> {
     pub bases: &'b [u32],
     pub starts: &'s [u32],
-    pub count: usize,
 }
 
 // The most calls that can stand one within another, where procedure 0 begins with shared value 0; none if any
 // number can. `sets` tells what the system can do, and is used up. What the other words hold before does not
 // matter: `counts` has a word for each node, `level` and `next` two for each procedure.
-pub fn rank(
+pub fn rank<'w>(
     system: System,
     procedures: Procedures,
-    sets: &mut [u32],
-    counts: &mut [u32],
-    level: &mut [u32],
-    next: &mut [u32],
+    sets: &'w mut [u32],
+    counts: &'w mut [u32],
+    level: &'w mut [u32],
+    next: &'w mut [u32],
 ) -> Option<u64>
     requires known { Known system procedures sets.old counts.old next.old }
     requires short { length sets.old ≤ 2 ^ 28 }
@@ -48,19 +44,6 @@ pub fn rank(
     requires told { TellsInside system.graph.now system.shared system.nodes (slice_index procedures.bases.now 0) sets.old }
     ensures { Ranked system.entry.graph.now system.entry.shared (slice_index procedures.entry.bases.now 0) result }
 {
-    count_calls(system, sets, counts);
-    first_level(system, procedures, counts, level);
-    let mut height: u64 = 0;
-    'levels: loop {
-        if has(level, 0, 0) {
-            break 'levels Some(height);
-        }
-        next.fill(0);
-        settle_level(system, procedures, sets, counts, level, next);
-        if is_clear(next) {
-            break 'levels None;
-        }
-        level.copy_from_slice(next);
-        height += 1;
-    }
+    let mut ranker = Ranker::new(system, procedures, sets, counts, level, next);
+    ranker.height()
 }

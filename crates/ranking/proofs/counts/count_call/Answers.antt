@@ -15,7 +15,7 @@ bounds-counts-base c = omega (arith, c.requires.countable.fine.procs c.args.n c.
 
 pub overflow_add-counts-then-has : goal.overflow_add-counts-then-has
 unfolding proc
-overflow_add-counts-then-has c = omega (arith, counts_le (c.loop-x.invariant.rest c.args.n c.loop-x.x c.requires.within c.loop-x-test.true (omega arith)))
+overflow_add-counts-then-has c = rw c.base-base.ensures (omega (arith, counts_le (c.loop-x.invariant.rest c.args.n c.loop-x.x c.requires.within c.loop-x-test.true (omega arith))))
 
 pub bounds-counts-base-then-has : goal.bounds-counts-base-then-has
 unfolding proc
@@ -24,7 +24,7 @@ bounds-counts-base-then-has c = omega (arith, c.requires.countable.fine.procs c.
 pub loop-x-preserved : goal.loop-x-preserved
 unfolding proc
 loop-x-preserved c = elim c.if-has.branch [
-  | then-has w ↦ simp w.counts-is (counting_has c.loop-x.invariant c.requires.within c.requires.is c.loop-x-test.true c.requires.countable.aligned (omega (arith, c.requires.countable.fine.procs c.args.n c.requires.within)) (w.if-has.ensures.yes refl) _ refl)
+  | then-has w ↦ simp (w.counts-is, c.base-base.ensures) (counting_has c.loop-x.invariant c.requires.within c.requires.is c.loop-x-test.true c.requires.countable.aligned (omega (arith, c.requires.countable.fine.procs c.args.n c.requires.within)) (w.if-has.ensures.yes refl) _ refl)
   | else-has w ↦ simp w.counts-is (counting_not c.loop-x.invariant c.requires.within c.requires.is c.loop-x-test.true (w.if-has.ensures.no refl))
 ]
 
