@@ -13,9 +13,9 @@ use Rattle.ranking.specs.declared.Procedures.{Procedures}
 use Rattle.ranking.specs.declared.levels.Ranker.{Ranker}
 use Rattle.ranking.specs.Calls.{callee}
 use Rattle.ranking.specs.Levels.{Taken}
-use Rattle.ranking.specs.Ranking.{Settled}
+use Rattle.ranking.specs.Steps.{Step}
 use Rattle.ranking.proofs.Facts.{Facts}
-use Rattle.ranking.proofs.Steps.{settled_none, settled_then}
+use Rattle.ranking.proofs.Steps.{step_none, step_then}
 
 -- a procedure begins at a multiple of the number of shared values
 pub base_even : {s : System} {p : Procedures} {w c next : List ℕ} → Facts s p w c next → (f : ℕ) → f < length p.bases.now → get_or p.bases.now f 0 % s.shared ≡ 0
@@ -31,7 +31,7 @@ value_is {g} {k} fine b v i even small h z e = same_entry k (first g i) b (i % k
 -- the nodes of a place below n have been passed, for the entry of the procedure at b with value v
 pub record PlacePassed (a r : Ranker) (b begin v n : ℕ) : Type 0 where
   pub rest : n % a.system.shared ≡ v
-  pub settled : Settled (λ d. d ≡ b + v) a r
+  pub settled : Step (λ d. d ≡ b + v) a r
   pub gone : Taken a.system.graph.now a.system.shared a.system.nodes r.sets.now (λ i. (begin ≤ i) × (i < n) × (callee a.system.graph.now a.system.shared i ≡ b + v))
 
 module _ (a : Ranker) (fine : Fine a.system.graph.now a.system.shared a.system.nodes) (b begin v : ℕ) (even : b % a.system.shared ≡ 0) (small : v < a.system.shared) where
@@ -44,7 +44,7 @@ module _ (a : Ranker) (fine : Fine a.system.graph.now a.system.shared a.system.n
   pub place_first : begin % k ≡ 0 → PlacePassed a a b begin v (begin + v)
   place_first z = record {
     rest = mod_from begin v k z small;
-    settled = settled_none a;
+    settled = step_none a;
     gone = λ i x hi ki q hx o.
         let e : i % k ≡ v = (value_is fine b v i even small hi ki q.2).1 in
         let same : begin + v ≡ i = close k i (begin + v) (omega (arith, q.1)) (omega (arith, q.0)) (mod_from begin v k z small ∙ sym e) in
@@ -52,7 +52,7 @@ module _ (a : Ranker) (fine : Fine a.system.graph.now a.system.shared a.system.n
   }
 
   module _ {r : Ranker} {n : ℕ} (l : PlacePassed a r b begin v n) where
-    further : {u : Ranker} → Settled (λ d. d ≡ b + v) a u → ((i x : ℕ) → On u.sets.now i x → On r.sets.now i x) → ((x : ℕ) → n < a.system.nodes → kind g n ≡ 1 → first g n ≡ b → x < k → On u.sets.now n x → ⊥) → PlacePassed a u b begin v (n + k)
+    further : {u : Ranker} → Step (λ d. d ≡ b + v) a u → ((i x : ℕ) → On u.sets.now i x → On r.sets.now i x) → ((x : ℕ) → n < a.system.nodes → kind g n ≡ 1 → first g n ≡ b → x < k → On u.sets.now n x → ⊥) → PlacePassed a u b begin v (n + k)
     further {u} t fewer here = record {
       rest = add-mod_right n k ∙ l.rest;
       settled = t;
@@ -67,11 +67,11 @@ module _ (a : Ranker) (fine : Fine a.system.graph.now a.system.shared a.system.n
     }
 
     -- the call at n has been removed
-    pub place_call : {u : Ranker} → first g n ≡ b → Settled (λ d. d ≡ callee r.system.graph.now r.system.shared n) r u → ((x : ℕ) → x < r.system.shared → On u.sets.now n x → ⊥) → PlacePassed a u b begin v (n + k)
+    pub place_call : {u : Ranker} → first g n ≡ b → Step (λ d. d ≡ callee r.system.graph.now r.system.shared n) r u → ((x : ℕ) → x < r.system.shared → On u.sets.now n x → ⊥) → PlacePassed a u b begin v (n + k)
     place_call f t none = further
-      (settled_then l.settled (λ d e. e ∙ ap (λ (s : System). callee s.graph.now s.shared n) l.settled.system ∙ (λ i. f i + l.rest i)) t)
-      t.settles.fewer
-      (λ x h c z hx. none x (subst (λ (s : System). x < s.shared) (sym l.settled.system) hx))
+        (step_then l.settled (λ d e. e ∙ ap (λ (s : System). callee s.graph.now s.shared n) l.settled.system ∙ (λ i. f i + l.rest i)) t)
+        t.settles.fewer
+        (λ x h c z hx. none x (subst (λ (s : System). x < s.shared) (sym l.settled.system) hx))
 
     -- n calls nothing, or another
     pub place_other : (kind g n ≡ 1 → first g n ≡ b → ⊥) → PlacePassed a r b begin v (n + k)

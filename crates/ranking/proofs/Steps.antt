@@ -4,18 +4,18 @@ use Rattle.saturation.specs.declared.System.{System}
 use Rattle.ranking.specs.declared.Procedures.{Procedures}
 use Rattle.ranking.specs.declared.levels.Ranker.{Ranker}
 use Rattle.ranking.specs.Levels.{Settles}
-use Rattle.ranking.specs.Ranking.{Settled}
+use Rattle.ranking.specs.Steps.{Step}
 use Rattle.ranking.proofs.Settled.{settles_none, settles_then, settles_of}
 
 -- what is given is the same before the step
-pub before : {D : ℕ → Type 0} {a b : Ranker} → Settled D a b → (P : System → Procedures → List ℕ → Type 0) → P b.system b.procedures b.level.now → P a.system a.procedures a.level.now
+pub before : {D : ℕ → Type 0} {a b : Ranker} → Step D a b → (P : System → Procedures → List ℕ → Type 0) → P b.system b.procedures b.level.now → P a.system a.procedures a.level.now
 before {a = a} {b = b} x P q = subst (λ s. P s a.procedures a.level.now) x.system (subst (λ p. P b.system p a.level.now) x.procedures (subst (P b.system b.procedures) x.level q))
 
-pub settled_none : {D : ℕ → Type 0} (a : Ranker) → Settled D a a
-settled_none a = record { system = refl; procedures = refl; level = refl; settles = settles_none }
+pub step_none : {D : ℕ → Type 0} (a : Ranker) → Step D a a
+step_none a = record { system = refl; procedures = refl; level = refl; settles = settles_none }
 
-pub settled_then : {D E : ℕ → Type 0} {a b c : Ranker} → Settled D a b → ((d : ℕ) → E d → D d) → Settled E b c → Settled D a c
-settled_then {E = E} {b = b} {c = c} x f y = record {
+pub step_then : {D E : ℕ → Type 0} {a b c : Ranker} → Step D a b → ((d : ℕ) → E d → D d) → Step E b c → Step D a c
+step_then {E = E} {b = b} {c = c} x f y = record {
   system = y.system ∙ x.system;
   procedures = y.procedures ∙ x.procedures;
   level = y.level ∙ x.level;

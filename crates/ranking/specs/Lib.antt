@@ -2,5 +2,5 @@
 pub mod Calls
 pub mod Counting
 pub mod Levels
-pub mod Ranking
+pub mod Steps
 pub mod Ranks

@@ -17,39 +17,33 @@ use std::mem::swap;
 
 // An entry: a procedure that begins with a shared value.
 #[derive(Clone, Copy)]
-pub struct Entry {
+pub(crate) struct Entry {
     pub procedure: usize,
     pub value: usize,
 }
 
+// The entry that runs begin with.
+const ROOT: Entry = Entry {
+    procedure: 0,
+    value: 0,
+};
+
 // What is known while entries are ranked: the calls that are left, and which entries are taken next.
 #[derive(Drop)]
 pub(crate) struct Ranker<'g, 's, 'b, 'c, 'w> {
-    pub system: System<'g, 's>,
-    pub procedures: Procedures<'b, 'c>,
+    system: System<'g, 's>,
+    procedures: Procedures<'b, 'c>,
     // The calls that are left: at each node, the entries that can be inside there.
-    pub sets: &'w mut [u32],
+    sets: &'w mut [u32],
     // How many of them each entry has, at its node's number.
-    pub counts: &'w mut [u32],
+    counts: &'w mut [u32],
     // The entries of this level, for each procedure a set of shared values.
-    pub level: &'w mut [u32],
+    level: &'w mut [u32],
     // Those of the next level, as far as they are known.
-    pub next: &'w mut [u32],
+    next: &'w mut [u32],
     ghost known: { ∥ Known system procedures sets.now counts.now next.now ∥₁ },
     ghost counted: { ∥ Counted system.graph.now system.shared system.nodes sets.now system.nodes counts.now ∥₁ },
     ghost levels: { length level.now ≡ length next.now },
-}
-
-// The number of the procedure that begins at node `base`.
-fn procedure_at(procedures: Procedures, base: usize) -> usize
-    requires { ((f : ℕ) → f < length procedures.bases.now → slice_index procedures.bases.now f ≢ base) → ⊥ }
-    ensures within { result < length procedures.entry.bases.now }
-    ensures is { slice_index procedures.entry.bases.now result ≡ base }
-{
-    let Some(f) = procedures.bases.iter().position(|b| *b as usize == base) else {
-        unreachable!()
-    };
-    f
 }
 
 // Whether node `n` calls the procedure that begins at node `base`.
@@ -59,15 +53,11 @@ fn calls(system: System, n: usize, base: usize) -> bool
     ensures yes { result ≡ true → (kind system.entry.graph.now n ≡ 1) × (first system.entry.graph.now n ≡ base) }
     ensures no { result ≡ false → kind system.entry.graph.now n ≡ 1 → first system.entry.graph.now n ≢ base }
 {
-    if let Node::Call { callee, .. } = system.node(n) {
-        callee == base
-    } else {
-        false
-    }
+    matches!(system.node(n), Node::Call { callee, .. } if callee == base)
 }
 
 // Removes the call at `n` from the entry with shared value `x`, whose count is at `entry`. Says how many calls it
-// has left.
+// has left. Both slices are lent to one call, since the counts are wrong until it ends.
 fn remove_call(sets: &mut [u32], counts: &mut [u32], n: usize, x: usize, entry: usize) -> u32
     requires within { (2 * n + 1 < length sets.old) × (x < 64) }
     requires has { On sets.old n x }
@@ -118,7 +108,7 @@ impl<'g, 's, 'b, 'c, 'w> Ranker<'g, 's, 'b, 'c, 'w> {
 impl Ranker<'_, '_, '_, '_, '_> {
     ghost use Rattle.saturation.specs.System.{Starts, TellsInside};
     ghost use Rattle.ranking.specs.Levels.{Idle};
-    ghost use Rattle.ranking.specs.Ranking.{Settled};
+    ghost use Rattle.ranking.specs.Steps.{IsEntry, number, Step};
     ghost use Rattle.ranking.specs.Ranks.{Ranked};
 
     // Whether the call at `n` is left to the entry with shared value `x`.
@@ -130,13 +120,13 @@ impl Ranker<'_, '_, '_, '_, '_> {
         has(self.sets, n, x)
     }
 
-    // Whether the entry of procedure `f` with shared value `x` is of this level.
-    pub(crate) fn is_reached(&self, f: usize, x: usize) -> bool
-        requires { (f < length self.now.procedures.bases.now) × (x < self.now.system.shared) }
-        ensures yes { result ≡ true → On self.now.level.now f x }
-        ensures no { result ≡ false → On self.now.level.now f x → ⊥ }
+    // Whether `entry` is of this level.
+    fn is_reached(&self, entry: Entry) -> bool
+        requires { IsEntry self.now.system self.now.procedures entry }
+        ensures yes { result ≡ true → On self.now.level.now entry.procedure entry.value }
+        ensures no { result ≡ false → On self.now.level.now entry.procedure entry.value → ⊥ }
     {
-        has(self.level, f, x)
+        has(self.level, entry.procedure, entry.value)
     }
 
     // Whether some entry of procedure `f` is of this level.
@@ -148,7 +138,7 @@ impl Ranker<'_, '_, '_, '_, '_> {
     }
 
     // Whether no entry is of the next level.
-    pub(crate) fn is_stuck(&self) -> bool
+    fn is_stuck(&self) -> bool
         ensures yes { result ≡ true → (i : ℕ) → i < length self.now.next.now → slice_index self.now.next.now i ≡ 0 }
         ensures no { result ≡ false → (i : ℕ) × (0 < slice_index self.now.next.now i) }
     {
@@ -161,15 +151,15 @@ impl Ranker<'_, '_, '_, '_, '_> {
         requires within { (n < self.old.system.nodes) × (x < self.old.system.shared) }
         requires is { kind self.old.system.graph.now n ≡ 1 }
         requires has { On self.old.sets.now n x }
-        ensures settles { Settled (λ d. d ≡ callee self.old.system.graph.now self.old.system.shared n) self.old self.new }
+        ensures settles { let s = self.old.system in Step (λ d. d ≡ callee s.graph.now s.shared n) self.old self.new }
         ensures gone { On self.new.sets.now n x → ⊥ }
     {
         let system = self.system;
+        let procedures = self.procedures;
         let base = system.base(n);
         let left = remove_call(self.sets, self.counts, n, x, base + x);
         if left == 0 {
-            let f = procedure_at(self.procedures, base);
-            add(self.next, f, x);
+            add(self.next, procedures.at(base), x);
         }
     }
 
@@ -177,7 +167,7 @@ impl Ranker<'_, '_, '_, '_, '_> {
     fn settle_call(&mut self, n: usize)
         requires within { n < self.old.system.nodes }
         requires is { kind self.old.system.graph.now n ≡ 1 }
-        ensures settles { Settled (λ d. d ≡ callee self.old.system.graph.now self.old.system.shared n) self.old self.new }
+        ensures settles { let s = self.old.system in Step (λ d. d ≡ callee s.graph.now s.shared n) self.old self.new }
         ensures gone { (x : ℕ) → x < self.old.system.shared → On self.new.sets.now n x → ⊥ }
     {
         for x in 0..self.system.shared {
@@ -189,13 +179,14 @@ impl Ranker<'_, '_, '_, '_, '_> {
 
     // Removes the calls of `begun` at call place number `site`. The place may hold other nodes too.
     fn settle_place(&mut self, begun: Entry, site: usize)
-        requires entry { (begun.procedure < length self.old.procedures.bases.now) × (begun.value < self.old.system.shared) }
+        requires entry { IsEntry self.old.system self.old.procedures begun }
         requires listed { site < length self.old.system.sites.now }
-        ensures settles { Settled (λ d. d ≡ slice_index self.old.procedures.bases.now begun.procedure + begun.value) self.old self.new }
-        ensures gone { Taken self.old.system.graph.now self.old.system.shared self.old.system.nodes self.new.sets.now (λ n. InPlace self.old.system.graph.now self.old.system.shared self.old.system.sites.now (slice_index self.old.procedures.bases.now begun.procedure + begun.value) site n) }
+        ensures settles { Step (λ d. d ≡ number self.old.procedures begun) self.old self.new }
+        ensures gone { let s = self.old.system in
+            Taken s.graph.now s.shared s.nodes self.new.sets.now (λ n. InPlace s.graph.now s.shared s.sites.now (number self.old.procedures begun) site n) }
     {
-        let base = self.procedures.bases[begun.procedure] as usize;
         let system = self.system;
+        let base = self.procedures.bases[begun.procedure] as usize;
         let place = system.place(site);
         for n in (place.start + begun.value..place.end).step_by(system.shared) {
             if calls(system, n, base) {
@@ -206,35 +197,37 @@ impl Ranker<'_, '_, '_, '_, '_> {
 
     // Removes all calls of `begun`.
     fn settle_callers(&mut self, begun: Entry)
-        requires { (begun.procedure < length self.old.procedures.bases.now) × (begun.value < self.old.system.shared) }
-        ensures settles { Settled (λ d. d ≡ slice_index self.old.procedures.bases.now begun.procedure + begun.value) self.old self.new }
-        ensures gone { Done self.old.system.graph.now self.old.system.shared self.old.system.nodes self.new.sets.now (slice_index self.old.procedures.bases.now begun.procedure + begun.value) }
+        requires { IsEntry self.old.system self.old.procedures begun }
+        ensures settles { Step (λ d. d ≡ number self.old.procedures begun) self.old self.new }
+        ensures gone { let s = self.old.system in Done s.graph.now s.shared s.nodes self.new.sets.now (number self.old.procedures begun) }
     {
-        let starts = self.procedures.starts;
-        for site in starts[begun.procedure]..starts[begun.procedure + 1] {
-            self.settle_place(begun, site as usize);
+        let procedures = self.procedures;
+        let places = procedures.places(begun.procedure);
+        for site in places.start..places.end {
+            self.settle_place(begun, site);
         }
     }
 
     // Removes all calls of the entries of procedure `f` that are of this level.
     fn settle_procedure(&mut self, f: usize)
         requires { f < length self.old.procedures.bases.now }
-        ensures settles { Settled (OfLevel self.old.system self.old.procedures self.old.level.now) self.old self.new }
+        ensures settles { Step (OfLevel self.old.system self.old.procedures self.old.level.now) self.old self.new }
         ensures gone { ProcedureDone self.old.system self.old.procedures self.old.level.now self.new.sets.now f }
     {
         for value in 0..self.system.shared {
-            if self.is_reached(f, value) {
-                self.settle_callers(Entry {
-                    procedure: f,
-                    value,
-                });
+            let entry = Entry {
+                procedure: f,
+                value,
+            };
+            if self.is_reached(entry) {
+                self.settle_callers(entry);
             }
         }
     }
 
     // Removes all calls of the entries of this level. `next` gets those that have no call left then.
-    pub(crate) fn settle_level(&mut self)
-        ensures settles { Settled (OfLevel self.old.system self.old.procedures self.old.level.now) self.old self.new }
+    fn settle_level(&mut self)
+        ensures settles { Step (OfLevel self.old.system self.old.procedures self.old.level.now) self.old self.new }
         ensures gone { (f : ℕ) → f < length self.old.procedures.bases.now → ProcedureDone self.old.system self.old.procedures self.old.level.now self.new.sets.now f }
     {
         for f in 0..self.procedures.bases.len() {
@@ -245,7 +238,7 @@ impl Ranker<'_, '_, '_, '_, '_> {
     }
 
     // Goes on to the next level. What `next` holds then does not matter.
-    pub(crate) fn advance(&mut self)
+    fn advance(&mut self)
         ensures same { (self.new.system ≡ self.old.system) × (self.new.procedures ≡ self.old.procedures) }
         ensures sets { self.new.sets.now ≡ self.old.sets.now }
         ensures level { self.new.level.now ≡ self.old.next.now }
@@ -253,17 +246,19 @@ impl Ranker<'_, '_, '_, '_, '_> {
         swap(&mut self.level, &mut self.next);
     }
 
-    // How many calls can stand one within another over procedure 0 with shared value 0, counted from the first level
-    // on; none if any number can.
+    // How many calls can stand one within another from the root on, where this is the first level; none if any
+    // number can.
     pub(crate) fn height(&mut self) -> Option<u64>
         requires short { length self.old.sets.now ≤ 2 ^ 28 }
         requires idle { Idle self.old.system self.old.procedures self.old.counts.now self.old.level.now }
-        requires starts { Starts self.old.system.graph.now self.old.system.shared self.old.system.nodes (slice_index self.old.procedures.bases.now 0) }
-        requires told { TellsInside self.old.system.graph.now self.old.system.shared self.old.system.nodes (slice_index self.old.procedures.bases.now 0) self.old.sets.now }
+        requires starts { let s = self.old.system in Starts s.graph.now s.shared s.nodes (slice_index self.old.procedures.bases.now 0) }
+        requires told { let s = self.old.system in
+            TellsInside s.graph.now s.shared s.nodes (slice_index self.old.procedures.bases.now 0) self.old.sets.now }
         ensures { Ranked self.old.system.graph.now self.old.system.shared (slice_index self.old.procedures.bases.now 0) result }
     {
+        // No `for height in 0..`: behind that range, which has no end, an `unreachable!` would stand.
         let mut height: u64 = 0;
-        'levels: while !self.is_reached(0, 0) {
+        'levels: while !self.is_reached(ROOT) {
             self.next.fill(0);
             self.settle_level();
             if self.is_stuck() {

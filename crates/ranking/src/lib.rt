@@ -6,13 +6,14 @@
 // calls left tells when an entry has none: so each call is looked at twice, however deep calls can be.
 #![tactic(auto)]
 
-ghost use Rattle.std.specs.Prelude.{◌≡◌, ◌*◌, ◌^◌, ◌≤◌, length, slice_index};
+ghost use Rattle.std.specs.Prelude.{◌≡◌, ◌≢◌, ℕ, ◌+◌, ◌*◌, ◌^◌, ◌<◌, ◌≤◌, length, slice_index};
 ghost use Rattle.saturation.specs.System.{Starts, TellsInside};
 ghost use Rattle.ranking.specs.Levels.{Known};
 ghost use Rattle.ranking.specs.Ranks.{Ranked};
 
 use levels::Ranker;
 use saturation::System;
+use std::ops::Range;
 
 mod counts;
 mod first;
@@ -24,6 +25,29 @@ mod levels;
 pub struct Procedures<'b, 's> {
     pub bases: &'b [u32],
     pub starts: &'s [u32],
+}
+
+impl Procedures<'_, '_> {
+    // The number of the procedure that begins at node `base`.
+    fn at(&self, base: usize) -> usize
+        requires { ((f : ℕ) → f < length self.now.bases.now → slice_index self.now.bases.now f ≢ base) → ⊥ }
+        ensures within { result < length self.now.bases.now }
+        ensures is { slice_index self.now.bases.now result ≡ base }
+    {
+        let Some(f) = self.bases.iter().position(|b| *b as usize == base) else {
+            unreachable!()
+        };
+        f
+    }
+
+    // The numbers of the call places of procedure `f`.
+    fn places(&self, f: usize) -> Range<usize>
+        requires { f + 1 < length self.now.starts.now }
+        ensures start { result.start ≡ slice_index self.now.starts.now f }
+        ensures end { result.end ≡ slice_index self.now.starts.now (f + 1) }
+    {
+        self.starts[f] as usize..self.starts[f + 1] as usize
+    }
 }
 
 // The most calls that can stand one within another, where procedure 0 begins with shared value 0; none if any

@@ -25,13 +25,13 @@ invariant_of-self c =
       levels = r.levels;
     }
 
-pub procedure_at-f-requires : goal.procedure_at-f-requires
-procedure_at-f-requires c = λ z. (facts c.args.self.now.known).owner c.args.n c.requires.within.0 (λ f l. subst (λ b. get_or c.args.self.now.procedures.bases.now f 0 ≢ b) c.base-base.ensures (z f l))
+pub at-requires : goal.at-requires
+at-requires c = λ z. (facts c.args.self.now.known).owner c.args.n c.requires.within.0 (λ f l. subst (λ b. get_or c.args.self.now.procedures.bases.now f 0 ≢ b) c.base-base.ensures (z f l))
 
 pub add-requires : goal.add-requires
 add-requires c =
     let k = facts c.args.self.now.known in
-    (omega (arith, k.next_long, c.procedure_at-f.ensures.within), omega (arith, k.countable.fine.few, c.requires.within.1))
+    (omega (arith, k.next_long, c.at.ensures.within), omega (arith, k.countable.fine.few, c.requires.within.1))
 
 pub invariant_of-self-then-left-eq0 : goal.invariant_of-self-then-left-eq0
 invariant_of-self-then-left-eq0 c =
@@ -47,12 +47,12 @@ pub returns-then-left-eq0-clause-settles : goal.returns-then-left-eq0-clause-set
 returns-then-left-eq0-clause-settles c =
     let r = c.args.self.now in
     let e = c.remove_call-left.ensures in
-    let f = c.procedure_at-f.ensures in
+    let f = c.at.ensures in
     record {
       system = refl;
       procedures = refl;
       level = refl;
-      settles = settles_last (facts r.known) (counted_of _ _ _ _ _ _ r.counted) c.requires.within.0 c.requires.within.1 c.requires.is c.requires.has e.removed c.remove_call-left.result (rw⁻¹ c.base-base.ensures e.left) c.if-left-eq0.true c.procedure_at-f.result f.within (f.is ∙ c.base-base.ensures) c.add.ensures.added c.add.ensures.grew;
+      settles = settles_last (facts r.known) (counted_of _ _ _ _ _ _ r.counted) c.requires.within.0 c.requires.within.1 c.requires.is c.requires.has e.removed c.remove_call-left.result (rw⁻¹ c.base-base.ensures e.left) c.if-left-eq0.true c.at.result f.within (f.is ∙ c.base-base.ensures) c.add.ensures.added c.add.ensures.grew;
     }
 
 pub returns-else-left-eq0-clause-settles : goal.returns-else-left-eq0-clause-settles

@@ -2,7 +2,7 @@
 use Rattle.std.proofs.Common.{◌≡◌, ◌+◌, get_or, refl, subst, sym, arith, below_more}
 use Rattle.saturation.specs.Bits.{On}
 use Rattle.ranking.specs.Calls.{Done}
-use Rattle.ranking.proofs.Steps.{before, settled_then}
+use Rattle.ranking.proofs.Steps.{before, step_then}
 use Rattle.ranking.proofs.levels.Ranker.settle_procedure.Goals as goal
 use Rattle.ranking.proofs.levels.Ranker.settle_procedure.Goals.{then-is_reached, else-is_reached}
 
@@ -15,7 +15,7 @@ loop-value-preserved c =
     let reached : On c.loop-value.self.level.now c.args.f v → On r.level.now c.args.f v = before i.0 (λ y p l. On l c.args.f v) in
     elim c.if-is_reached.branch [
       | then-is_reached w ↦ simp w.self-is (
-        settled_then i.0 (λ d e. (c.args.f, v, c.requires, c.loop-value-test.true, reached (w.if-is_reached.ensures.yes refl), before i.0 (λ y p l. d ≡ get_or p.bases.now c.args.f 0 + v) e)) w.settle_callers.ensures.settles,
+        step_then i.0 (λ d e. (c.args.f, v, c.requires, c.loop-value-test.true, reached (w.if-is_reached.ensures.yes refl), before i.0 (λ y p l. d ≡ get_or p.bases.now c.args.f 0 + v) e)) w.settle_callers.ensures.settles,
         below_more (λ x. On r.level.now c.args.f x → Done r.system.graph.now r.system.shared r.system.nodes w.settle_callers.new.self.sets.now (b + x)) v
             (λ x h q n z hn kn e hz o. i.1 x h q n z hn kn e hz (w.settle_callers.ensures.settles.settles.fewer n z o)) (λ q. before i.0 (λ y p l. Done y.graph.now y.shared y.nodes w.settle_callers.new.self.sets.now (get_or p.bases.now c.args.f 0 + v)) w.settle_callers.ensures.gone),
       )
