@@ -53,13 +53,13 @@ impl Procedures<'_, '_> {
 // The most calls that can stand one within another, where procedure 0 begins with shared value 0; none if any
 // number can. `sets` tells what the system can do, and is used up. What the other words hold before does not
 // matter: `counts` has a word for each node, `level` and `next` two for each procedure.
-pub fn rank<'w>(
+pub fn rank(
     system: System,
     procedures: Procedures,
-    sets: &'w mut [u32],
-    counts: &'w mut [u32],
-    level: &'w mut [u32],
-    next: &'w mut [u32],
+    sets: &mut [u32],
+    counts: &mut [u32],
+    level: &mut [u32],
+    next: &mut [u32],
 ) -> Option<u64>
     requires known { Known system procedures sets.old counts.old next.old }
     requires short { length sets.old ≤ 2 ^ 28 }
