@@ -1,5 +1,5 @@
 -- Steps of the ranker, one after another.
-use Rattle.std.proofs.Common.{◌≡◌, ℕ, List, refl, ◌∙◌, subst}
+use Rattle.std.proofs.Common.{ℕ, List, refl, ◌∙◌, subst}
 use Rattle.saturation.specs.declared.System.{System}
 use Rattle.ranking.specs.declared.Procedures.{Procedures}
 use Rattle.ranking.specs.declared.levels.Ranker.{Ranker}

@@ -1,6 +1,6 @@
 -- `height`: level after level; at the root's level its height is known, and with nothing of the next level there
 -- is none.
-use Rattle.std.proofs.Common.{◌≡◌, ℕ, ◌+◌, ◌<◌, length, get_or, sym, refl, ap, ◌∙◌, subst, subst₂, add-zero, arith}
+use Rattle.std.proofs.Common.{◌≡◌, ℕ, ◌+◌, ◌<◌, length, get_or, sym, refl, ◌∙◌, subst, subst₂, add-zero, arith}
 use Rattle.std.proofs.Math.Logic.{∥∥₁_map}
 use Rattle.saturation.proofs.Marking.{total_le}
 use Rattle.saturation.specs.declared.System.{System}
@@ -35,9 +35,6 @@ invariant_of-self c =
 
 pub overflow_add-height : goal.overflow_add-height
 overflow_add-height c = omega (arith, c.levels.invariant.level.bound, total_le c.args.self.now.sets.now, c.requires.short)
-
-pub levels-smaller : goal.levels-smaller
-levels-smaller c = rw c.advance.ensures.sets (new_less c.settle_level.ensures.settles.settles (λ i h. c.fill.ensures.clones i 0 (omega (arith, c.fill.ensures.len)) refl) (c.if-is_stuck.ensures.no refl))
 
 pub levels-preserved : goal.levels-preserved
 levels-preserved c =

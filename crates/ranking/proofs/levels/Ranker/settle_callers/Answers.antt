@@ -1,7 +1,5 @@
 -- `settle_callers`: call place after call place; each call of the procedure stands in one of them.
-use Rattle.std.proofs.Common.{◌≡◌, ◌+◌, ◌<◌, ◌≤◌, get_or, ap, ◌∙◌, subst, sym, arith, below_more}
-use Rattle.saturation.specs.declared.System.{System}
-use Rattle.ranking.specs.declared.Procedures.{Procedures}
+use Rattle.std.proofs.Common.{◌≡◌, ◌+◌, ◌≤◌, get_or, arith, below_more}
 use Rattle.ranking.specs.Levels.{Taken, InPlace}
 use Rattle.ranking.proofs.Facts.{facts}
 use Rattle.ranking.proofs.Steps.{before, step_then}

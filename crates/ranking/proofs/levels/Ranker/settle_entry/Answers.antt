@@ -1,14 +1,9 @@
 -- `settle_entry`: one call is removed, and counted.
-use Rattle.std.proofs.Common.{◌≡◌, ℕ, ◌+◌, ◌-◌, ◌≢◌, ◌<◌, length, get_or, refl, sym, ◌∙◌, subst, arith}
+use Rattle.std.proofs.Common.{◌≢◌, get_or, refl, sym, ◌∙◌, subst, arith}
 use Rattle.std.proofs.Math.Logic.{∥∥₁_map}
 use Rattle.ranking.proofs.Facts.{facts, counted_of}
-use Rattle.ranking.proofs.Settled.{counts_pos, in_counts, still_counted, known_still, settles_last, settles_more}
+use Rattle.ranking.proofs.Settled.{counts_pos, still_counted, known_still, settles_last, settles_more}
 use Rattle.ranking.proofs.levels.Ranker.settle_entry.Goals as goal
-
-pub remove_call-left-requires-clause-counts : goal.remove_call-left-requires-clause-counts
-remove_call-left-requires-clause-counts c =
-    let r = c.args.self.now in
-    rw c.base-base.ensures (in_counts (facts r.known) (counted_of _ _ _ _ _ _ r.counted) c.requires.within.0 c.requires.within.1 c.requires.is c.requires.has)
 
 pub remove_call-left-requires-clause-some : goal.remove_call-left-requires-clause-some
 remove_call-left-requires-clause-some c =

@@ -1,6 +1,6 @@
 -- `settle_place`: node after node, as far apart as there are shared values.
-use Rattle.std.proofs.Common.{◌+◌, get_or, sym, refl, subst, arith}
-use Rattle.saturation.specs.System.{second, site_begin}
+use Rattle.std.proofs.Common.{◌+◌, get_or, refl, arith}
+use Rattle.saturation.specs.System.{site_begin}
 use Rattle.ranking.proofs.Facts.{facts}
 use Rattle.ranking.proofs.Passing.{PlacePassed, base_even, place_first, place_call, place_other}
 use Rattle.ranking.proofs.levels.Ranker.settle_place.Goals as goal
@@ -33,9 +33,6 @@ settle_call-requires-clause-within c =
     let a = k.sites c.args.site c.requires.listed in
     rw c.loop-n.invariant.settled.system (omega (arith, (k.countable.fine.callers _ a.0 a.1).0, c.place-place.ensures.end, c.loop-n-test.true))
 
-pub settle_call-requires-clause-is : goal.settle_call-requires-clause-is
-settle_call-requires-clause-is c = rw c.loop-n.invariant.settled.system (c.if-calls.ensures.yes refl).0
-
 passed : (c : Joined-calls) → PlacePassed c.args.self.now c.if-calls.self (get_or c.args.self.now.procedures.bases.now c.args.begun.procedure 0) (site_begin c.args.self.now.system.sites.now c.args.site) c.args.begun.value (c.loop-n.n + c.args.self.now.system.shared)
 passed c =
     let r = c.args.self.now in
@@ -53,8 +50,3 @@ pub returns-after-calls : goal.returns-after-calls
 returns-after-calls c =
     let l = passed (goal.at.returns-after-calls c).Joined-calls in
     record { settles = l.settled; gone = λ n x hn kn q. l.gone n x hn kn (q.0, omega (arith, q.1, c.place-place.ensures.end), q.2) }
-
-pub returns : goal.returns
-returns c =
-    let l = c.loop-n.invariant in
-    record { settles = l.settled; gone = λ n x hn kn q. l.gone n x hn kn (q.0, omega (arith, q.1, c.place-place.ensures.end, c.loop-n-test.false), q.2) }

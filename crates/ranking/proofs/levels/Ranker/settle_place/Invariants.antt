@@ -1,5 +1,5 @@
 -- `settle_place`: node after node, as far apart as there are shared values.
-use Rattle.std.proofs.Common.{get_or, ◌-◌}
+use Rattle.std.proofs.Common.{get_or}
 use Rattle.saturation.specs.System.{site_begin}
 use Rattle.ranking.proofs.Passing.{PlacePassed}
 use Rattle.ranking.proofs.levels.Ranker.settle_place.Given as goal

@@ -1,5 +1,5 @@
 -- `settle_procedure`: value after value.
-use Rattle.std.proofs.Common.{◌≡◌, ◌+◌, get_or, refl, subst, sym, arith, below_more}
+use Rattle.std.proofs.Common.{◌≡◌, ◌+◌, get_or, refl, subst, sym, below_more}
 use Rattle.saturation.specs.Bits.{On}
 use Rattle.ranking.specs.Calls.{Done}
 use Rattle.ranking.proofs.Steps.{before, step_then}
