@@ -1,7 +1,6 @@
 -- `advance`: the two sets are as long as each other.
 use Rattle.std.proofs.Common.{List, ℕ, length, refl, sym, ap, ◌∙◌}
 use denote.MutBor.{MutBor}
-use Rattle.std.proofs.Math.Logic.{∥∥₁_map}
 use Rattle.ranking.proofs.Settled.{known_still}
 use Rattle.ranking.proofs.levels.Ranker.advance.Goals as goal
 
@@ -11,7 +10,7 @@ invariant_of-self c =
     let r = c.args.self.now in
     let size : MutBor (List ℕ) → ℕ = λ m. length m.now in
     record {
-      known = ∥∥₁_map r.known (λ k. known_still _ _ _ k refl refl (ap size e.y_after ∙ r.levels));
+      known = known_still _ _ _ r.known refl refl (ap size e.y_after ∙ r.levels);
       counted = r.counted;
       levels = ap size e.x_after ∙ sym r.levels ∙ sym (ap size e.y_after);
     }

@@ -1,23 +1,20 @@
 -- `settle_entry`: one call is removed, and counted.
 use Rattle.std.proofs.Common.{◌≢◌, get_or, refl, sym, ◌∙◌, subst, arith}
-use Rattle.std.proofs.Math.Logic.{∥∥₁_map}
-use Rattle.ranking.proofs.Facts.{facts, counted_of}
+use Rattle.ranking.proofs.Facts.{facts}
 use Rattle.ranking.proofs.Settled.{counts_pos, still_counted, known_still, settles_last, settles_more}
 use Rattle.ranking.proofs.levels.Ranker.settle_entry.Goals as goal
 
 pub remove_call-left-requires-clause-some : goal.remove_call-left-requires-clause-some
-remove_call-left-requires-clause-some c =
-    let r = c.args.self.now in
-    rw c.base-base.ensures (counts_pos (facts r.known) (counted_of _ _ _ _ _ _ r.counted) c.requires.within.0 c.requires.within.1 c.requires.is c.requires.has)
+remove_call-left-requires-clause-some c = rw c.base-base.ensures (counts_pos c.args.self.now c.requires.within c.requires.is c.requires.has)
 
 pub invariant_of-self : goal.invariant_of-self
 invariant_of-self c =
-    let r = c.args.self.now in
+    let a = c.args.self.now in
     let e = c.remove_call-left.ensures in
     record {
-      known = ∥∥₁_map r.known (λ k. known_still _ _ _ k c.remove_call-left.auto.sets c.remove_call-left.auto.counts refl);
-      counted = ∣ still_counted (facts r.known) (counted_of _ _ _ _ _ _ r.counted) c.requires.within.0 c.requires.within.1 c.requires.is c.requires.has e.removed c.base-base.ensures e.left e.counted ∣₁;
-      levels = r.levels;
+      known = known_still _ _ _ a.known c.remove_call-left.auto.sets c.remove_call-left.auto.counts refl;
+      counted = ∣ still_counted a c.requires.within c.requires.is c.requires.has e.removed c.base-base.ensures e.left e.counted ∣₁;
+      levels = a.levels;
     }
 
 pub at-requires : goal.at-requires
@@ -30,33 +27,30 @@ add-requires c =
 
 pub invariant_of-self-then-left-eq0 : goal.invariant_of-self-then-left-eq0
 invariant_of-self-then-left-eq0 c =
-    let r = c.args.self.now in
+    let a = c.args.self.now in
     let e = c.remove_call-left.ensures in
     record {
-      known = ∥∥₁_map r.known (λ k. known_still _ _ _ k c.remove_call-left.auto.sets c.remove_call-left.auto.counts c.add.auto.table);
-      counted = ∣ still_counted (facts r.known) (counted_of _ _ _ _ _ _ r.counted) c.requires.within.0 c.requires.within.1 c.requires.is c.requires.has e.removed c.base-base.ensures e.left e.counted ∣₁;
-      levels = r.levels ∙ sym c.add.auto.table;
+      known = known_still _ _ _ a.known c.remove_call-left.auto.sets c.remove_call-left.auto.counts c.add.auto.table;
+      counted = ∣ still_counted a c.requires.within c.requires.is c.requires.has e.removed c.base-base.ensures e.left e.counted ∣₁;
+      levels = a.levels ∙ sym c.add.auto.table;
     }
 
 pub returns-then-left-eq0-clause-settles : goal.returns-then-left-eq0-clause-settles
 returns-then-left-eq0-clause-settles c =
-    let r = c.args.self.now in
     let e = c.remove_call-left.ensures in
-    let f = c.at.ensures in
     record {
       system = refl;
       procedures = refl;
       level = refl;
-      settles = settles_last (facts r.known) (counted_of _ _ _ _ _ _ r.counted) c.requires.within.0 c.requires.within.1 c.requires.is c.requires.has e.removed c.remove_call-left.result (rw⁻¹ c.base-base.ensures e.left) c.if-left-eq0.true c.at.result f.within (f.is ∙ c.base-base.ensures) c.add.ensures.added c.add.ensures.grew;
+      settles = settles_last c.args.self.now c.requires.within c.requires.is c.requires.has e.removed c.base-base.ensures e.left c.if-left-eq0.true c.at.result c.at.ensures.within c.at.ensures.is c.add.ensures.added c.add.ensures.grew;
     }
 
 pub returns-else-left-eq0-clause-settles : goal.returns-else-left-eq0-clause-settles
 returns-else-left-eq0-clause-settles c =
-    let r = c.args.self.now in
     let e = c.remove_call-left.ensures in
     record {
       system = refl;
       procedures = refl;
       level = refl;
-      settles = settles_more (facts r.known) (counted_of _ _ _ _ _ _ r.counted) c.requires.within.0 c.requires.within.1 c.requires.is c.requires.has e.removed c.remove_call-left.result (rw⁻¹ c.base-base.ensures e.left) c.if-left-eq0.false;
+      settles = settles_more c.args.self.now c.requires.within c.requires.is c.requires.has e.removed c.base-base.ensures e.left c.if-left-eq0.false;
     }
