@@ -5,3 +5,4 @@ pub mod Node
 pub mod Marks
 pub mod Visits
 pub mod Engine
+pub mod Steps

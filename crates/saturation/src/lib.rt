@@ -4,14 +4,14 @@
 ghost use Rattle.std.specs.Prelude.{◌≡◌, ◌*◌, ◌/◌, ◌<◌, length, slice_index};
 ghost use Rattle.saturation.specs.System.{proc, site_begin, site_end, Fine, Starts, Tells};
 ghost use Rattle.saturation.specs.Node.{Is};
-ghost use Rattle.saturation.specs.Engine.{Ready, Drained};
+ghost use Rattle.saturation.specs.Engine.{Ready};
 
-use bits::add;
-use marks::{mark, pick, take};
+use engine::Engine;
+use marks::Marks;
 use std::ops::Range;
-use visits::visit;
 
 pub mod bits;
+mod engine;
 mod marks;
 mod visits;
 
@@ -87,21 +87,6 @@ impl System<'_, '_> {
     }
 }
 
-// Visits the marked nodes of the word of marks at `word` until none is marked there.
-fn drain(system: System, work: &mut [u32], marks: &mut [u32], word: usize)
-    requires ready { Ready system work.old marks.old }
-    requires within { word < length marks.old / 33 * 32 }
-    ensures drained { Drained system.entry word work.old marks.old work.new marks.new }
-    ensures empty { slice_index marks.new word ≡ 0 }
-{
-    'drain: while marks[word] != 0 {
-        let n = take(marks, word);
-        if n < system.nodes {
-            visit(system, work, marks, n);
-        }
-    }
-}
-
 // Fills `work` with what the system can do from its entry `root` on. What `work` and `marks` hold before does not matter.
 pub fn saturate(system: System, work: &mut [u32], marks: &mut [u32], root: usize)
     requires ready { Ready system work.old marks.old }
@@ -109,18 +94,12 @@ pub fn saturate(system: System, work: &mut [u32], marks: &mut [u32], root: usize
     ensures { Tells system.entry.graph.now system.entry.shared system.entry.nodes root work.new }
 {
     work.fill(0);
-    marks.fill(0);
-    add(work, root, 0);
-    mark(marks, root);
-    let summary = marks.len() / 33 * 32;
-    let end = marks.len() / 33 * 33;
-    let mut at = summary;
-    'sweep: loop {
-        at = pick(marks, summary, end, at);
-        if at >= end {
-            break 'sweep;
-        }
-        let word = take(marks, at) - 32 * summary;
-        drain(system, work, marks, word);
-    }
+    let mut marks = Marks::new(marks);
+    let mut engine = Engine {
+        system,
+        sets: work,
+        marks: &mut marks,
+    };
+    engine.insert(root, 0);
+    engine.sweep(root);
 }
