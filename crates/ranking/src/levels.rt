@@ -201,9 +201,9 @@ impl Ranker<'_, '_, '_, '_, '_> {
         ensures settles { Step (λ d. d ≡ number self.old.procedures begun) self.old self.new }
         ensures gone { let s = self.old.system in Done s.graph.now s.shared s.nodes self.new.sets.now (number self.old.procedures begun) }
     {
-        let procedures = self.procedures;
-        let places = procedures.places(begun.procedure);
-        for site in places.start..places.end {
+        let starts = self.procedures.starts;
+        let until = starts[begun.procedure + 1] as usize;
+        for site in starts[begun.procedure] as usize..until {
             self.settle_place(begun, site);
         }
     }
