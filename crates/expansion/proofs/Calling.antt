@@ -65,7 +65,7 @@ module _ {s b : List ℕ} {n0 at0 : ℕ} {c : Scope} {q : Place} {g : Prog} {f :
     pub within_room : IsCall r1.step e → k1 < k + calls_in e p.steps
     within_room x = omega (arith, v.few, calls_step e a p.steps (call e) (call_here x), same_same e)
 
-    pub within_next : (w2 : List ℕ) (k2 : ℕ) → Noted r1.step e r.first w1 w2 k1 k2 → Within s e w w2 k k2 (a + 1) r1.end (record { base = r.base; first = r.first + r.width; width = r.width; shared = r.shared; sites = r.sites; until = r.until }) g f p
+    pub within_next : (w2 : List ℕ) (k2 : ℕ) → Noted r1.step e r.first w1 w2 k1 k2 → Within s e w w2 k k2 (a + 1) r1.end (record { base = r.base; first = r.first + r.width; width = r.width; shared = r.shared }) g f p
     within_next w2 k2 o = elim o [
       | inl x ↦ record {
         from = next.1;
@@ -93,7 +93,7 @@ module _ {s b : List ℕ} {n0 at0 : ℕ} {c : Scope} {q : Place} {g : Prog} {f :
     ]
 
 module _ {s : List ℕ} {n0 at0 : ℕ} {c : Scope} {q : Place} {e : ℕ} {w w1 : List ℕ} {k k1 a at : ℕ} {r : Place} (v : Inside s n0 at0 c q e w w1 k k1 a at r) where
-  pub inside_next : a < n0 → (r1 : Found) → ReadStep c s at (Ok r1) → (w2 : List ℕ) (k2 : ℕ) → Noted r1.step e r.first w1 w2 k1 k2 → Inside s n0 at0 c q e w w2 k k2 (a + 1) r1.end (record { base = r.base; first = r.first + r.width; width = r.width; shared = r.shared; sites = r.sites; until = r.until })
+  pub inside_next : a < n0 → (r1 : Found) → ReadStep c s at (Ok r1) → (w2 : List ℕ) (k2 : ℕ) → Noted r1.step e r.first w1 w2 k1 k2 → Inside s n0 at0 c q e w w2 k k2 (a + 1) r1.end (record { base = r.base; first = r.first + r.width; width = r.width; shared = r.shared })
   inside_next l r1 m w2 k2 o = record { it = λ b g f p h. within_next h (v.it b g f p h) l r1 m w2 k2 o }
 
   pub inside_last : n0 ≤ a → a ≤ n0 → ProcListed s n0 at0 c q e w w1 k k1

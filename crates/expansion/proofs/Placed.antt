@@ -22,6 +22,8 @@ use Rattle.program.proofs.Nums.{num_bits}
 use Rattle.program.proofs.Spots.{before_lt, before_times}
 use Rattle.program.proofs.Walk.{every_nth}
 use Rattle.program.proofs.Kept.{ok_step}
+use Rattle.expansion.specs.declared.nodes.Action.TheVariants.{Flow, Call as Calls}
+use Rattle.expansion.specs.declared.nodes.Callers.{Callers}
 use Rattle.expansion.specs.declared.nodes.Place.{Place}
 use Rattle.expansion.specs.Words.{Codes}
 use Rattle.expansion.specs.Nodes.{PlaceIs}
@@ -98,15 +100,15 @@ module _ {s bases : List ℕ} {x : VarNo} {at : ExprAt} {q : Place} {g : Prog} {
   pub set_small : (v u : ℕ) (b : Bool) → v < 2 ^ (g.shared + p.own) → Puts v x.0 b u → u < 4096
   set_small v u b l pu = let k = pu (g.shared + p.own) set_is.4 (omega (arith, small_w h)) l in omega (arith, k.0, wide h)
 
-  pub set_codes : (v : ℕ) → v < 2 ^ (g.shared + p.own) → (r : Valued) → Evals s at.0 v r → (u : ℕ) → Puts v x.0 r.holds u →
-      Codes (2 ^ g.shared) (loc g f p a v) q.base q.sites q.until (record { kind = 0; first = q.first + q.width + u; second = q.first + q.width + u; base = q.base }) (move_at g f p a v (nth p.steps a))
-  set_codes v l r ev u pu =
+  pub set_codes : (cs : Callers) (v : ℕ) → v < 2 ^ (g.shared + p.own) → (r : Valued) → Evals s at.0 v r → (u : ℕ) → Puts v x.0 r.holds u →
+      Codes (2 ^ g.shared) (loc g f p a v) q.base cs.from cs.until (record { action = Flow (q.first + q.width + u) (q.first + q.width + u); base = q.base }) (move_at g f p a v (nth p.steps a))
+  set_codes cs v l r ev u pu =
       let m = set_is in
       let w = g.shared + p.own in
       let b = (ev w m.0 m.1 m.3 m.5).0 in
       let k = pu w m.4 (omega (arith, small_w h)) l in
       let e = next_is h u ∙ ap (loc g f p (a + 1)) (put_num w v x.0 r.holds u k ∙ ap (λ z. num (put (bits w v) x.0 z)) b) in
-      rw m.2 (λ i. record { kind = 0; first = e i; second = e i; base = q.base })
+      rw m.2 (λ i. record { action = Flow (e i) (e i); base = q.base })
 
 -- an open
 module _ {s bases : List ℕ} {x : VarNo} {q : Place} {g : Prog} {f : ℕ} {p : Proc} {a : ℕ} (h : PlaceIs s bases (Some (Open x)) q g f p a) where
@@ -119,14 +121,14 @@ module _ {s bases : List ℕ} {x : VarNo} {q : Place} {g : Prog} {f : ℕ} {p : 
   pub open_small : (v u : ℕ) (b : Bool) → v < 2 ^ (g.shared + p.own) → Puts v x.0 b u → u < 4096
   open_small v u b l pu = let k = pu (g.shared + p.own) open_is.1 (omega (arith, small_w h)) l in omega (arith, k.0, wide h)
 
-  pub open_codes : (v : ℕ) → v < 2 ^ (g.shared + p.own) → (u z : ℕ) → Puts v x.0 true u → Puts v x.0 false z →
-      Codes (2 ^ g.shared) (loc g f p a v) q.base q.sites q.until (record { kind = 0; first = q.first + q.width + u; second = q.first + q.width + z; base = q.base }) (move_at g f p a v (nth p.steps a))
-  open_codes v l u z pu pz =
+  pub open_codes : (cs : Callers) (v : ℕ) → v < 2 ^ (g.shared + p.own) → (u z : ℕ) → Puts v x.0 true u → Puts v x.0 false z →
+      Codes (2 ^ g.shared) (loc g f p a v) q.base cs.from cs.until (record { action = Flow (q.first + q.width + u) (q.first + q.width + z); base = q.base }) (move_at g f p a v (nth p.steps a))
+  open_codes cs v l u z pu pz =
       let w = g.shared + p.own in
       let m : w ≤ 32 = omega (arith, small_w h) in
       let e = next_is h u ∙ ap (loc g f p (a + 1)) (put_num w v x.0 true u (pu w open_is.1 m l)) in
       let e' = next_is h z ∙ ap (loc g f p (a + 1)) (put_num w v x.0 false z (pz w open_is.1 m l)) in
-      rw open_is.0 (λ i. record { kind = 0; first = e i; second = e' i; base = q.base })
+      rw open_is.0 (λ i. record { action = Flow (e i) (e' i); base = q.base })
 
 -- a go
 module _ {s bases : List ℕ} {t : PlaceNo} {at : ExprAt} {q : Place} {g : Prog} {f : ℕ} {p : Proc} {a : ℕ} (h : PlaceIs s bases (Some (Go t at)) q g f p a) where
@@ -143,14 +145,14 @@ module _ {s bases : List ℕ} {t : PlaceNo} {at : ExprAt} {q : Place} {g : Prog}
   pub go_there : q.base + (t.0 * q.width + q.width) ≤ 67108864
   go_there = rw (h.base, h.width) (place_end h t.0 go_is.4)
 
-  pub go_codes : (v : ℕ) → (r : Valued) → Evals s at.0 v r → (y : ℕ) → (r.holds ≡ true → y ≡ q.base + t.0 * q.width + v) → (r.holds ≡ false → y ≡ q.first + q.width + v) →
-      Codes (2 ^ g.shared) (loc g f p a v) q.base q.sites q.until (record { kind = 0; first = y; second = y; base = q.base }) (move_at g f p a v (nth p.steps a))
-  go_codes v r ev y yes1 no1 =
+  pub go_codes : (cs : Callers) (v : ℕ) → (r : Valued) → Evals s at.0 v r → (y : ℕ) → (r.holds ≡ true → y ≡ q.base + t.0 * q.width + v) → (r.holds ≡ false → y ≡ q.first + q.width + v) →
+      Codes (2 ^ g.shared) (loc g f p a v) q.base cs.from cs.until (record { action = Flow y y; base = q.base }) (move_at g f p a v (nth p.steps a))
+  go_codes cs v r ev y yes1 no1 =
       let m = go_is in
       let w = g.shared + p.own in
       let b = (ev w m.0 m.1 m.3 m.5).0 in
       let e = to r.holds refl ∙ ap (λ z. loc g f p (pick z t.0 (a + 1)) v) b in
-      rw m.2 (λ i. record { kind = 0; first = e i; second = e i; base = q.base })
+      rw m.2 (λ i. record { action = Flow (e i) (e i); base = q.base })
     where
       to : (z : Bool) → r.holds ≡ z → y ≡ loc g f p (pick z t.0 (a + 1)) v
       to true z = yes1 z ∙ omega (arith, h.base, ap (λ w. t.0 * w) h.width)
@@ -164,10 +166,10 @@ module _ {s bases : List ℕ} {d : ProcNo} {q : Place} {g : Prog} {f : ℕ} {p :
   pub call_in : d.0 < length bases
   call_in = (h.begins d.0 call_is.1).0
 
-  pub call_codes : (v : ℕ) → Codes (2 ^ g.shared) (loc g f p a v) q.base q.sites q.until (record { kind = 1; first = get_or bases d.0 0; second = q.first + q.width + (v - v % q.shared); base = q.base }) (move_at g f p a v (nth p.steps a))
-  call_codes v =
+  pub call_codes : (cs : Callers) (v : ℕ) → Codes (2 ^ g.shared) (loc g f p a v) q.base cs.from cs.until (record { action = Calls (get_or bases d.0 0) (q.first + q.width + (v - v % q.shared)); base = q.base }) (move_at g f p a v (nth p.steps a))
+  call_codes cs v =
       let K = 2 ^ g.shared in
       let high : v - v % q.shared ≡ v / K * K = ap (λ z. v - v % z) h.shared ∙ omega (arith, div-add-mod' v K) in
       let e = next_is h (v - v % q.shared) ∙ ap (loc g f p (a + 1)) high in
       let c = (h.begins d.0 call_is.1).1 in
-      rw call_is.0 (get_or bases d.0 0, (λ i. record { kind = 1; first = get_or bases d.0 0; second = e i; base = q.base }), omega (arith, c, loc_mod g f p a v))
+      rw call_is.0 (get_or bases d.0 0, (λ i. record { action = Calls (get_or bases d.0 0) (e i); base = q.base }), omega (arith, c, loc_mod g f p a v))

@@ -12,6 +12,7 @@ use Rattle.program.specs.Numbers.{loc}
 use Rattle.program.proofs.Prefix.{prefix_i}
 use Rattle.program.proofs.Walk.{split}
 use Rattle.program.proofs.Kept.{ok_step}
+use Rattle.expansion.specs.declared.nodes.Callers.{Callers}
 use Rattle.expansion.specs.declared.nodes.Place.{Place}
 use Rattle.expansion.specs.Words.{Upto}
 use Rattle.expansion.specs.Nodes.{StepIs, PlaceIs, PlaceDone}
@@ -40,7 +41,7 @@ module _ {s bases : List ℕ} {n0 at0 : ℕ} {c : Scope} {q : Place} {g : Prog} 
     begins = h.begins;
   }
 
-  pub place_next : (r : Place) (a : ℕ) → PlaceAt r g f p a → PlaceAt (record { base = r.base; first = r.first + r.width; width = r.width; shared = r.shared; sites = r.sites; until = r.until }) g f p (a + 1)
+  pub place_next : (r : Place) (a : ℕ) → PlaceAt r g f p a → PlaceAt (record { base = r.base; first = r.first + r.width; width = r.width; shared = r.shared }) g f p (a + 1)
   place_next r a l = record { base = l.base; width = l.width; shared = l.shared; first = omega (arith, l.first, l.width, add-mul a 1 (2 ^ (g.shared + p.own)), one-mul (2 ^ (g.shared + p.own))) }
 
   module _ (a at : ℕ) (from : StepsFrom s p a at) (here : a < length p.steps) where
@@ -59,49 +60,43 @@ module _ {s bases : List ℕ} {n0 at0 : ℕ} {c : Scope} {q : Place} {g : Prog} 
         ((m.0.it, r.end, k.1 ∙ ap some (sym x.0), m.1), (from.0, rw add-one x.1))
 
 -- the procedure up to place a is written; the next step stands at `at`, and its place is r
-pub record Going (s bases : List ℕ) (n0 at0 : ℕ) (c : Scope) (q : Place) (w w1 : List ℕ) (a at : ℕ) (r : Place) : Type 0 where
+pub record Going (s bases : List ℕ) (n0 at0 : ℕ) (c : Scope) (q : Place) (cs : Callers) (w w1 : List ℕ) (a at : ℕ) (r : Place) : Type 0 where
   pub from : (g : Prog) (f : ℕ) (p : Proc) → ProcIs s bases n0 at0 c q g f p → StepsFrom s p a at
   pub place : (g : Prog) (f : ℕ) (p : Proc) → ProcIs s bases n0 at0 c q g f p → PlaceAt r g f p a
-  pub sites : r.sites ≡ q.sites
-  pub until : r.until ≡ q.until
-  pub done : (g : Prog) (f : ℕ) (p : Proc) → ProcIs s bases n0 at0 c q g f p → (starts : List ℕ) → get_or starts f 0 ≡ q.sites → get_or starts (f + 1) 0 ≡ q.until →
+  pub done : (g : Prog) (f : ℕ) (p : Proc) → ProcIs s bases n0 at0 c q g f p → (starts : List ℕ) → get_or starts f 0 ≡ cs.from → get_or starts (f + 1) 0 ≡ cs.until →
       Upto g starts w (before g.shared g.procs f) → Upto g starts w1 (loc g f p a 0)
 
-pub going_first : (s bases : List ℕ) (n0 at0 : ℕ) (c : Scope) (q : Place) (w : List ℕ) → Going s bases n0 at0 c q w w 0 at0 q
-going_first s bases n0 at0 c q w = record {
+pub going_first : (s bases : List ℕ) (n0 at0 : ℕ) (c : Scope) (q : Place) (cs : Callers) (w : List ℕ) → Going s bases n0 at0 c q cs w w 0 at0 q
+going_first s bases n0 at0 c q cs w = record {
   from = λ g f p h. h.from;
   place = λ g f p h. h.place;
-  sites = refl;
-  until = refl;
   done = λ g f p h starts lo hi u. let e : before g.shared g.procs f ≡ loc g f p 0 0 = omega arith in subst (Upto g starts w) e u;
 }
 
-module _ {s bases : List ℕ} {n0 at0 : ℕ} {c : Scope} {q : Place} {w w1 : List ℕ} {a at : ℕ} {r : Place} (k : Going s bases n0 at0 c q w w1 a at r) where
+module _ {s bases : List ℕ} {n0 at0 : ℕ} {c : Scope} {q : Place} {cs : Callers} {w w1 : List ℕ} {a at : ℕ} {r : Place} (k : Going s bases n0 at0 c q cs w w1 a at r) where
   abbrev Following : Place
-  Following = record { base = r.base; first = r.first + r.width; width = r.width; shared = r.shared; sites = r.sites; until = r.until }
+  Following = record { base = r.base; first = r.first + r.width; width = r.width; shared = r.shared }
 
   -- one place more, whatever stands there
-  placed : (e : Option Step) (w2 : List ℕ) → PlaceDone s bases e r w1 w2 r.width → (g : Prog) (f : ℕ) (p : Proc) (h : ProcIs s bases n0 at0 c q g f p) → a ≤ length p.steps → StepIs s e p a → (starts : List ℕ) → get_or starts f 0 ≡ q.sites → get_or starts (f + 1) 0 ≡ q.until →
+  placed : (e : Option Step) (w2 : List ℕ) → PlaceDone s bases e r cs w1 w2 r.width → (g : Prog) (f : ℕ) (p : Proc) (h : ProcIs s bases n0 at0 c q g f p) → a ≤ length p.steps → StepIs s e p a → (starts : List ℕ) → get_or starts f 0 ≡ cs.from → get_or starts (f + 1) 0 ≡ cs.until →
       Upto g starts w (before g.shared g.procs f) → Upto g starts w2 (before g.shared g.procs f + (a + 1) * 2 ^ (g.shared + p.own))
   placed e w2 m g f p h l i starts lo hi u =
       let at1 = k.place g f p h in
-      let x = m g f p a (place_is h e r a at1 l i) starts (lo ∙ sym k.sites) (hi ∙ sym k.until) (k.done g f p h starts lo hi u) in
+      let x = m g f p a (place_is h e r a at1 l i) starts lo hi (k.done g f p h starts lo hi u) in
       let e1 : loc g f p a r.width ≡ before g.shared g.procs f + (a + 1) * 2 ^ (g.shared + p.own) = omega (arith, at1.width, add-mul a 1 (2 ^ (g.shared + p.own)), one-mul (2 ^ (g.shared + p.own))) in
       subst (Upto g starts w2) e1 x
 
-  pub going_next : a < n0 → (r1 : Found) → ReadStep c s at (Ok r1) → (w2 : List ℕ) → PlaceDone s bases (Some r1.step) r w1 w2 r.width → Going s bases n0 at0 c q w w2 (a + 1) r1.end Following
+  pub going_next : a < n0 → (r1 : Found) → ReadStep c s at (Ok r1) → (w2 : List ℕ) → PlaceDone s bases (Some r1.step) r cs w1 w2 r.width → Going s bases n0 at0 c q cs w w2 (a + 1) r1.end Following
   going_next l r1 m w2 n = record {
     from = λ g f p h. (step_next h a at (k.from g f p h) (omega (arith, h.steps)) r1 m).1;
     place = λ g f p h. place_next h r a (k.place g f p h);
-    sites = k.sites;
-    until = k.until;
     done = λ g f p h starts lo hi u.
         let i = (step_next h a at (k.from g f p h) (omega (arith, h.steps)) r1 m).0 in
         let e : before g.shared g.procs f + (a + 1) * 2 ^ (g.shared + p.own) ≡ loc g f p (a + 1) 0 = omega arith in
         subst (Upto g starts w2) e (placed (Some r1.step) w2 n g f p h (omega (arith, h.steps)) i starts lo hi u);
   }
 
-  pub going_last : n0 ≤ a → a ≤ n0 → (w2 : List ℕ) → PlaceDone s bases None r w1 w2 r.width → ProcDone s bases n0 at0 c q w w2
+  pub going_last : n0 ≤ a → a ≤ n0 → (w2 : List ℕ) → PlaceDone s bases None r cs w1 w2 r.width → ProcDone s bases n0 at0 c q cs w w2
   going_last l l' w2 n g f p h starts lo hi u =
       let e : a ≡ length p.steps = omega (arith, h.steps) in
       subst (λ z. Upto g starts w2 (before g.shared g.procs f + (z + 1) * 2 ^ (g.shared + p.own))) e (placed None w2 n g f p h (omega arith) (past p.steps a (omega arith)) starts lo hi u)

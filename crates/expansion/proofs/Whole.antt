@@ -9,6 +9,7 @@ use Rattle.program.specs.Table.{before}
 use Rattle.program.specs.Walking.{Rest}
 use Rattle.program.proofs.Walk.{rest_first}
 use Rattle.program.proofs.Kept.{good}
+use Rattle.expansion.specs.declared.nodes.Callers.{Callers}
 use Rattle.expansion.specs.declared.nodes.Place.{Place}
 use Rattle.expansion.specs.Words.{Upto}
 use Rattle.expansion.specs.Procs.{ProcIs, ProcDone}
@@ -29,7 +30,7 @@ sofar_first s h starts w = record { rest = λ g r. rest_first r.reads; upto = λ
     none k (p ∷ ps) n l = omega arith
 
 -- what was read of procedure f makes its scope and its first place
-pub record Made (h : Header) (bases starts : List ℕ) (f : ℕ) (d : Procedure) (c : Scope) (q : Place) : Type 0 where
+pub record Made (h : Header) (bases starts : List ℕ) (f : ℕ) (d : Procedure) (c : Scope) (q : Place) (r : Callers) : Type 0 where
   pub vars : c.vars ≡ h.shared + d.own
   pub last : c.last.0 ≡ d.steps
   pub procs : c.procs ≡ h.procs
@@ -37,10 +38,10 @@ pub record Made (h : Header) (bases starts : List ℕ) (f : ℕ) (d : Procedure)
   pub first : q.first ≡ get_or bases f 0
   pub width : q.width ≡ 2 ^ (h.shared + d.own)
   pub shared : q.shared ≡ 2 ^ h.shared
-  pub sites : get_or starts f 0 ≡ q.sites
-  pub until : get_or starts (f + 1) 0 ≡ q.until
+  pub sites : get_or starts f 0 ≡ r.from
+  pub until : get_or starts (f + 1) 0 ≡ r.until
 
-module _ {s : List ℕ} {h : Header} {bases starts w : List ℕ} {f at : ℕ} (k : Sofar s h starts w f at) (based : Based s h bases) (here : f < h.procs) (d : Procedure) (q : ReadProc h.shared h.procs s at (Ok d)) (c : Scope) (z : Place) (m : Made h bases starts f d c z) where
+module _ {s : List ℕ} {h : Header} {bases starts w : List ℕ} {f at : ℕ} (k : Sofar s h starts w f at) (based : Based s h bases) (here : f < h.procs) (d : Procedure) (q : ReadProc h.shared h.procs s at (Ok d)) (c : Scope) (z : Place) (y : Callers) (m : Made h bases starts f d c z y) where
   pub proc_is : (g : Prog) (r : Headed s h g) → ProcIs s bases d.steps d.first c z g f (walk_next r f at (k.rest g r) here d q).p
   proc_is g r =
       let x = walk_next r f at (k.rest g r) here d q in
@@ -60,7 +61,7 @@ module _ {s : List ℕ} {h : Header} {bases starts w : List ℕ} {f at : ℕ} (k
         begins = based g r;
       }
 
-  pub sofar_next : (w' : List ℕ) → ProcDone s bases d.steps d.first c z w w' → Sofar s h starts w' (f + 1) d.end
+  pub sofar_next : (w' : List ℕ) → ProcDone s bases d.steps d.first c z y w w' → Sofar s h starts w' (f + 1) d.end
   sofar_next w' done = record {
     rest = λ g r. (walk_next r f at (k.rest g r) here d q).rest;
     upto = λ g r.

@@ -7,6 +7,7 @@ use Rattle.program.specs.Reading.{Means}
 use Rattle.program.specs.Table.{before, total}
 use Rattle.program.specs.Numbers.{loc, move_at}
 use Rattle.program.specs.WellFormed.{Good}
+use Rattle.expansion.specs.declared.nodes.Callers.{Callers}
 use Rattle.expansion.specs.declared.nodes.Node.{Node}
 use Rattle.expansion.specs.declared.nodes.Place.{Place}
 use Rattle.expansion.specs.Words.{Codes, Upto}
@@ -30,12 +31,12 @@ pub record PlaceIs (s bases : List ℕ) (d : Option Step) (q : Place) (g : Prog)
   pub first : q.first ≡ loc g f p a 0
   pub begins : (e : ℕ) → e < length g.procs → (e < length bases) × (slice_index bases e ≡ before g.shared g.procs e)
 
--- a node's words, for values v
-abbrev pub NodeIs : List ℕ → List ℕ → Option Step → Place → ℕ → Node → Type 0
-NodeIs s bases d q v r = (g : Prog) (f : ℕ) (p : Proc) (a : ℕ) → PlaceIs s bases d q g f p a → v < 2 ^ (g.shared + p.own) →
-    Codes (2 ^ g.shared) (loc g f p a v) q.base q.sites q.until r (move_at g f p a v (nth p.steps a))
+-- what a node does, for values v, in a procedure with these callers
+abbrev pub NodeIs : List ℕ → List ℕ → Option Step → Place → Callers → ℕ → Node → Type 0
+NodeIs s bases d q c v r = (g : Prog) (f : ℕ) (p : Proc) (a : ℕ) → PlaceIs s bases d q g f p a → v < 2 ^ (g.shared + p.own) →
+    Codes (2 ^ g.shared) (loc g f p a v) q.base c.from c.until r (move_at g f p a v (nth p.steps a))
 
--- the first c nodes of the place were written, behind all nodes before it
-abbrev pub PlaceDone : List ℕ → List ℕ → Option Step → Place → List ℕ → List ℕ → ℕ → Type 0
-PlaceDone s bases d q w w' c = (g : Prog) (f : ℕ) (p : Proc) (a : ℕ) → PlaceIs s bases d q g f p a → (starts : List ℕ) → slice_index starts f ≡ q.sites → slice_index starts (f + 1) ≡ q.until →
-    Upto g starts w (loc g f p a 0) → Upto g starts w' (loc g f p a c)
+-- the first n nodes of the place were written, behind all nodes before it
+abbrev pub PlaceDone : List ℕ → List ℕ → Option Step → Place → Callers → List ℕ → List ℕ → ℕ → Type 0
+PlaceDone s bases d q c w w' n = (g : Prog) (f : ℕ) (p : Proc) (a : ℕ) → PlaceIs s bases d q g f p a → (starts : List ℕ) → slice_index starts f ≡ c.from → slice_index starts (f + 1) ≡ c.until →
+    Upto g starts w (loc g f p a 0) → Upto g starts w' (loc g f p a n)

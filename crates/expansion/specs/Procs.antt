@@ -7,6 +7,7 @@ use Rattle.program.specs.Rows.{rows, row_i}
 use Rattle.program.specs.Table.{before, size, total}
 use Rattle.program.specs.Numbers.{loc}
 use Rattle.program.specs.WellFormed.{Good}
+use Rattle.expansion.specs.declared.nodes.Callers.{Callers}
 use Rattle.expansion.specs.declared.nodes.Place.{Place}
 use Rattle.expansion.specs.Words.{Upto}
 
@@ -36,6 +37,6 @@ pub record ProcIs (s bases : List ℕ) (n at : ℕ) (c : Scope) (q : Place) (g :
   pub begins : (e : ℕ) → e < length g.procs → (e < length bases) × (slice_index bases e ≡ before g.shared g.procs e)
 
 -- its nodes were written, behind all nodes before it
-abbrev pub ProcDone : List ℕ → List ℕ → ℕ → ℕ → Scope → Place → List ℕ → List ℕ → Type 0
-ProcDone s bases n at c q w w' = (g : Prog) (f : ℕ) (p : Proc) → ProcIs s bases n at c q g f p → (starts : List ℕ) → slice_index starts f ≡ q.sites → slice_index starts (f + 1) ≡ q.until →
+abbrev pub ProcDone : List ℕ → List ℕ → ℕ → ℕ → Scope → Place → Callers → List ℕ → List ℕ → Type 0
+ProcDone s bases n at c q r w w' = (g : Prog) (f : ℕ) (p : Proc) → ProcIs s bases n at c q g f p → (starts : List ℕ) → slice_index starts f ≡ r.from → slice_index starts (f + 1) ≡ r.until →
     Upto g starts w (before g.shared g.procs f) → Upto g starts w' (before g.shared g.procs f + size g.shared p)

@@ -4,7 +4,7 @@ ghost use Rattle.program.specs.Program.{Prog, Proc};
 ghost use Rattle.program.specs.Table.{total};
 ghost use Rattle.expansion.specs.Procs.{ProcIs, ProcDone};
 
-use crate::nodes::Place;
+use crate::nodes::{Callers, Place};
 use crate::places::expand_place;
 use program::procedures::Procedure;
 use program::steps::{Scope, read_step};
@@ -15,11 +15,12 @@ pub fn expand_procedure(
     procedure: Procedure,
     scope: Scope,
     start: Place,
+    callers: Callers,
     bases: &[u32],
     words: &mut [u32],
 )
     requires { (g : Prog) × (f : ℕ) × (p : Proc) × ProcIs bytes.now bases.now procedure.steps procedure.first scope start g f p × (4 * total g.shared g.procs ≤ length words.old) }
-    ensures { ProcDone bytes.now bases.now procedure.steps procedure.first scope start words.old words.new }
+    ensures { ProcDone bytes.now bases.now procedure.steps procedure.first scope start callers words.old words.new }
 {
     let mut at = procedure.first;
     let mut place = start;
@@ -27,12 +28,12 @@ pub fn expand_procedure(
         let Ok(found) = read_step(bytes, at, scope) else {
             unreachable()
         };
-        expand_place(bytes, Some(found.step), place, bases, words);
+        expand_place(bytes, Some(found.step), place, callers, bases, words);
         at = found.end;
         place = Place {
             first: place.first + place.width,
             ..place
         };
     }
-    expand_place(bytes, None, place, bases, words);
+    expand_place(bytes, None, place, callers, bases, words);
 }

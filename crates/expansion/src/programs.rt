@@ -4,7 +4,7 @@ ghost use Rattle.program.specs.Program.{Prog};
 ghost use Rattle.program.specs.Table.{total};
 ghost use Rattle.expansion.specs.Programs.{Headed, Based, Expanded};
 
-use crate::nodes::Place;
+use crate::nodes::{Callers, Place};
 use crate::procedures::expand_procedure;
 use program::procedures::{read_procedure, table_size, values};
 use program::programs::Header;
@@ -46,16 +46,17 @@ pub fn expand(bytes: &[u8], header: Header, bases: &[u32], starts: &[u32], words
             first: bases[f],
             width,
             shared,
-            sites: starts[f],
+        };
+        let callers = Callers {
+            from: starts[f],
             until: starts[f + 1],
         };
-        let vars = header.shared as usize + procedure.own as usize;
         let scope = Scope {
-            vars,
+            vars: header.shared as usize + procedure.own as usize,
             last: PlaceNo(procedure.steps),
             procs: header.procs,
         };
-        expand_procedure(bytes, procedure, scope, start, bases, words);
+        expand_procedure(bytes, procedure, scope, start, callers, bases, words);
         at = procedure.end;
     }
 }

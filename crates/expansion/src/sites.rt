@@ -16,7 +16,7 @@ fn note(sites: &mut [u32], count: usize, step: Step, callee: usize, node: u32) -
     ensures { Noted step callee node sites.old sites.new count result }
 {
     if let Step::Call(to) = step {
-        if to.0 as usize == callee {
+        if usize::from(to.0) == callee {
             sites[count] = node;
             return count + 1;
         }
@@ -86,8 +86,6 @@ fn sites_of(
             first: base,
             width,
             shared,
-            sites: 0,
-            until: 0,
         };
         count = sites_in_procedure(bytes, procedure, scope, start, callee, count, sites);
         at = procedure.end;

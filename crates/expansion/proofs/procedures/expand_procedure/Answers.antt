@@ -4,7 +4,7 @@ use Rattle.expansion.proofs.Stepping.{going_first, going_next, going_last, going
 use Rattle.expansion.proofs.procedures.expand_procedure.Goals as goal
 
 pub loop-a-init : goal.loop-a-init
-loop-a-init c = going_first _ _ _ _ _ _ _
+loop-a-init c = going_first _ _ _ _ _ _ _ _
 
 pub unreachable-requires : goal.unreachable-requires
 unreachable-requires c = going_some c.loop-a.invariant c.requires.3 c.loop-a-test.true c.in_default.ensures

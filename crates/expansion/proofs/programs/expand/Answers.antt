@@ -21,8 +21,8 @@ bounds-bases-f-in-loop-f c = (c.requires.based c.requires.some.0 c.requires.some
 pub expand_procedure-requires : goal.expand_procedure-requires
 expand_procedure-requires c =
     let h = c.requires.some in
-    (h.0, c.loop-f.f, _, proc_is c.loop-f.invariant c.requires.based c.loop-f-test.true _ c.in-Ok.ensures _ _ (record { vars = refl; last = refl; procs = refl; base = refl; first = refl; width = c.values-width.ensures; shared = c.values-shared.ensures; sites = refl; until = refl }) h.0 h.1, omega (arith, h.3))
+    (h.0, c.loop-f.f, _, proc_is c.loop-f.invariant c.requires.based c.loop-f-test.true _ c.in-Ok.ensures _ _ _ (record { vars = refl; last = refl; procs = refl; base = refl; first = refl; width = c.values-width.ensures; shared = c.values-shared.ensures; sites = refl; until = refl }) h.0 h.1, omega (arith, h.3))
 
 pub loop-f-preserved : goal.loop-f-preserved
 loop-f-preserved c =
-    sofar_next c.loop-f.invariant c.requires.based c.loop-f-test.true _ c.in-Ok.ensures _ _ (record { vars = refl; last = refl; procs = refl; base = refl; first = refl; width = c.values-width.ensures; shared = c.values-shared.ensures; sites = refl; until = refl }) _ c.expand_procedure.ensures
+    sofar_next c.loop-f.invariant c.requires.based c.loop-f-test.true _ c.in-Ok.ensures _ _ _ (record { vars = refl; last = refl; procs = refl; base = refl; first = refl; width = c.values-width.ensures; shared = c.values-shared.ensures; sites = refl; until = refl }) _ c.expand_procedure.ensures
