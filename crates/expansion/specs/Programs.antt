@@ -16,6 +16,11 @@ pub record Headed (s : List ℕ) (h : Header) (g : Prog) : Type 0 where
 abbrev pub Begin : List ℕ → Prog → ℕ → Type 0
 Begin bases g c = (e : ℕ) → e < c → (e < length bases) × (slice_index bases e ≡ before g.shared g.procs e)
 
+-- the bytes are g, and its procedures begin where the list says
+pub record Known (s : List ℕ) (h : Header) (b : List ℕ) (g : Prog) : Type 0 where
+  pub headed : Headed s h g
+  pub begins : Begin b g (length g.procs)
+
 -- where all procedures begin
 abbrev pub Based : List ℕ → Header → List ℕ → Type 0
 Based s h bases = (g : Prog) → Headed s h g → Begin bases g (length g.procs)

@@ -1,13 +1,13 @@
 // The words of one node. No `From` of std takes a u32 to a usize, so those are cast by `as`.
-ghost use Rattle.std.specs.Prelude.{ℕ, ◌+◌, ◌*◌, ◌^◌, ◌<◌, length};
+ghost use Rattle.std.specs.Prelude.{◌≡◌, ℕ, ◌+◌, ◌*◌, ◌^◌, ◌<◌, length};
 ghost use Rattle.program.specs.Program.{Prog, Proc};
-ghost use Rattle.program.specs.Values.{Puts};
 ghost use Rattle.expansion.specs.Words.{Wrote};
 ghost use Rattle.expansion.specs.Nodes.{PlaceIs, NodeIs};
 
+use crate::source::Source;
 use program::expressions::evaluate;
 use program::steps::Step;
-use program::values::{clear_bit, set_bit};
+use program::values::put_bit;
 
 // The call places of a procedure, by their numbers: those at `from` and on, before `until`.
 #[derive(Clone, Copy)]
@@ -42,6 +42,19 @@ pub struct Place {
     pub shared: u32,
 }
 
+impl Place {
+    // The place after this one.
+    pub fn next(self) -> Place
+        requires { self.first + self.width < 2 ^ 32 }
+        ensures { result ≡ record self { first = self.first + self.width } }
+    {
+        Place {
+            first: self.first + self.width,
+            ..self
+        }
+    }
+}
+
 // Writes the words of node `n`: a number that tells its kind of action, two that go with it, and where its
 // procedure begins.
 pub fn write_node(words: &mut [u32], n: usize, node: Node)
@@ -59,29 +72,16 @@ pub fn write_node(words: &mut [u32], n: usize, node: Node)
     words[4 * n + 3] = node.base;
 }
 
-// The values with variable `var` become yes or no.
-fn assign(values: u32, var: u32, yes: bool) -> u32
-    requires { var < 32 }
-    ensures { Puts values var yes result }
-{
-    if yes {
-        set_bit(values, var)
-    } else {
-        clear_bit(values, var)
-    }
-}
-
 // What the node of `place` with these values does, where `step` stands, or none behind the last step.
 fn action_of(
-    bytes: &[u8],
+    source: Source,
     step: Option<Step>,
     place: Place,
     callers: Callers,
-    bases: &[u32],
     values: u32,
 ) -> Action
-    requires { (g : Prog) × (f : ℕ) × (p : Proc) × (a : ℕ) × PlaceIs bytes.now bases.now step place g f p a × (values < 2 ^ (g.shared + p.own)) }
-    ensures { NodeIs bytes.now bases.now step place callers values (record { action = result; base = place.base }) }
+    requires { (g : Prog) × (f : ℕ) × (p : Proc) × (a : ℕ) × PlaceIs source step place g f p a × (values < 2 ^ (g.shared + p.own)) }
+    ensures { NodeIs source.entry step place callers values (record { action = result; base = place.base }) }
 {
     let Some(found) = step else {
         return Action::Return(callers);
@@ -89,22 +89,27 @@ fn action_of(
     let next = place.first + place.width;
     match found {
         Step::Set { var, expr } => {
-            let to = next + assign(values, u32::from(var.0), evaluate(bytes, expr.0, values).holds);
+            let to = next
+                + put_bit(
+                    values,
+                    u32::from(var.0),
+                    evaluate(source.bytes, expr.0, values).holds,
+                );
             Action::Flow {
                 first: to,
                 second: to,
             }
         }
         Step::Open(var) => Action::Flow {
-            first: next + set_bit(values, u32::from(var.0)),
-            second: next + clear_bit(values, u32::from(var.0)),
+            first: next + put_bit(values, u32::from(var.0), true),
+            second: next + put_bit(values, u32::from(var.0), false),
         },
         Step::Go {
             place: target,
             expr,
         } => {
             let there = place.base + u32::from(target.0) * place.width;
-            let to = if evaluate(bytes, expr.0, values).holds {
+            let to = if evaluate(source.bytes, expr.0, values).holds {
                 there + values
             } else {
                 next + values
@@ -117,7 +122,7 @@ fn action_of(
         Step::Call(callee) => {
             let waiting = next + (values - values % place.shared);
             Action::Call {
-                callee: bases[usize::from(callee.0)],
+                callee: source.bases[usize::from(callee.0)],
                 waiting,
             }
         }
@@ -127,18 +132,17 @@ fn action_of(
 
 // The node of `place` with these values, where `step` stands, or none behind the last step.
 pub fn node_words(
-    bytes: &[u8],
+    source: Source,
     step: Option<Step>,
     place: Place,
     callers: Callers,
-    bases: &[u32],
     values: u32,
 ) -> Node
-    requires { (g : Prog) × (f : ℕ) × (p : Proc) × (a : ℕ) × PlaceIs bytes.now bases.now step place g f p a × (values < 2 ^ (g.shared + p.own)) }
-    ensures { NodeIs bytes.now bases.now step place callers values result }
+    requires { (g : Prog) × (f : ℕ) × (p : Proc) × (a : ℕ) × PlaceIs source step place g f p a × (values < 2 ^ (g.shared + p.own)) }
+    ensures { NodeIs source.entry step place callers values result }
 {
     Node {
-        action: action_of(bytes, step, place, callers, bases, values),
+        action: action_of(source, step, place, callers, values),
         base: place.base,
     }
 }

@@ -5,22 +5,22 @@ ghost use Rattle.program.specs.Table.{total};
 ghost use Rattle.expansion.specs.Nodes.{PlaceIs, PlaceDone};
 
 use crate::nodes::{Callers, Place, node_words, write_node};
+use crate::source::Source;
 use program::steps::Step;
 
 // Writes the nodes of `place`, in the order of their values.
 pub fn expand_place(
-    bytes: &[u8],
+    source: Source,
     step: Option<Step>,
     place: Place,
     callers: Callers,
-    bases: &[u32],
     words: &mut [u32],
 )
-    requires { (g : Prog) × (f : ℕ) × (p : Proc) × (a : ℕ) × PlaceIs bytes.now bases.now step place g f p a × (4 * total g.shared g.procs ≤ length words.old) }
-    ensures { PlaceDone bytes.now bases.now step place callers words.old words.new place.width }
+    requires { (g : Prog) × (f : ℕ) × (p : Proc) × (a : ℕ) × PlaceIs source step place g f p a × (4 * total g.shared g.procs ≤ length words.old) }
+    ensures { PlaceDone source.entry step place callers words.old words.new place.width }
 {
     for values in 0..place.width {
-        let node = node_words(bytes, step, place, callers, bases, values);
+        let node = node_words(source, step, place, callers, values);
         write_node(words, (place.first + values) as usize, node);
     }
 }

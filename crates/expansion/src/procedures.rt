@@ -6,34 +6,24 @@ ghost use Rattle.expansion.specs.Procs.{ProcIs, ProcDone};
 
 use crate::nodes::{Callers, Place};
 use crate::places::expand_place;
+use crate::source::Source;
 use program::procedures::Procedure;
-use program::steps::{Scope, read_step};
 
 // Writes the nodes of the procedure that was read as `procedure`, which begins at place `start`.
 pub fn expand_procedure(
-    bytes: &[u8],
+    source: Source,
     procedure: Procedure,
-    scope: Scope,
     start: Place,
     callers: Callers,
-    bases: &[u32],
     words: &mut [u32],
 )
-    requires { (g : Prog) × (f : ℕ) × (p : Proc) × ProcIs bytes.now bases.now procedure.steps procedure.first scope start g f p × (4 * total g.shared g.procs ≤ length words.old) }
-    ensures { ProcDone bytes.now bases.now procedure.steps procedure.first scope start callers words.old words.new }
+    requires { (g : Prog) × (f : ℕ) × (p : Proc) × ProcIs source procedure start g f p × (4 * total g.shared g.procs ≤ length words.old) }
+    ensures { ProcDone source.entry procedure start callers words.old words.new }
 {
-    let mut at = procedure.first;
     let mut place = start;
-    for _a in 0..procedure.steps {
-        let Ok(found) = read_step(bytes, at, scope) else {
-            unreachable()
-        };
-        expand_place(bytes, Some(found.step), place, callers, bases, words);
-        at = found.end;
-        place = Place {
-            first: place.first + place.width,
-            ..place
-        };
+    for found in source.steps(procedure) {
+        expand_place(source, Some(found.step), place, callers, words);
+        place = place.next();
     }
-    expand_place(bytes, None, place, callers, bases, words);
+    expand_place(source, None, place, callers, words);
 }

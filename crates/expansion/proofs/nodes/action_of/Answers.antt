@@ -14,36 +14,36 @@ overflow_add-next c = let n = next_small c.requires.4 in omega (arith, n)
 pub evaluate-requires : goal.evaluate-requires
 evaluate-requires c = set_has (at_step _ (c.in-Some.is ∙ ap Some c.in-Set.is) c.requires.4)
 
-pub assign-requires : goal.assign-requires
-assign-requires c = rw c.from.ensures (set_var (at_step _ (c.in-Some.is ∙ ap Some c.in-Set.is) c.requires.4))
+pub put_bit-requires : goal.put_bit-requires
+put_bit-requires c = rw c.from.ensures (set_var (at_step _ (c.in-Some.is ∙ ap Some c.in-Set.is) c.requires.4))
 
 pub overflow_add-to : goal.overflow_add-to
 overflow_add-to c =
     let h = at_step _ (c.in-Some.is ∙ ap Some c.in-Set.is) c.requires.4 in
-    omega (arith, next_small h, set_small h _ _ _ c.requires.5 (puts_at c.from.ensures c.assign.ensures))
+    omega (arith, next_small h, set_small h _ _ _ c.requires.5 (puts_at c.from.ensures c.put_bit.ensures))
 
 pub returns-in-Set : goal.returns-in-Set
-returns-in-Set c = λ g f p a h l. set_codes (at_step _ (c.in-Some.is ∙ ap Some c.in-Set.is) h) _ _ l _ c.evaluate.ensures _ (puts_at c.from.ensures c.assign.ensures)
+returns-in-Set c = λ g f p a h l. set_codes (at_step _ (c.in-Some.is ∙ ap Some c.in-Set.is) h) _ _ l _ c.evaluate.ensures _ (puts_at c.from.ensures c.put_bit.ensures)
 
-pub set_bit-requires : goal.set_bit-requires
-set_bit-requires c = rw c.from-in-Open.ensures (open_var (at_step _ (c.in-Some.is ∙ ap Some c.in-Open.is) c.requires.4))
+pub put_bit-requires-in-Open : goal.put_bit-requires-in-Open
+put_bit-requires-in-Open c = rw c.from-in-Open.ensures (open_var (at_step _ (c.in-Some.is ∙ ap Some c.in-Open.is) c.requires.4))
 
 pub overflow_add-result : goal.overflow_add-result
 overflow_add-result c =
     let h = at_step _ (c.in-Some.is ∙ ap Some c.in-Open.is) c.requires.4 in
-    omega (arith, next_small h, open_small h _ _ _ c.requires.5 (puts_at c.from-in-Open.ensures c.set_bit.ensures))
+    omega (arith, next_small h, open_small h _ _ _ c.requires.5 (puts_at c.from-in-Open.ensures c.put_bit-in-Open.ensures))
 
-pub clear_bit-requires : goal.clear_bit-requires
-clear_bit-requires c = rw c.from-in-Open-2.ensures (open_var (at_step _ (c.in-Some.is ∙ ap Some c.in-Open.is) c.requires.4))
+pub put_bit-requires-in-Open-2 : goal.put_bit-requires-in-Open-2
+put_bit-requires-in-Open-2 c = rw c.from-in-Open-2.ensures (open_var (at_step _ (c.in-Some.is ∙ ap Some c.in-Open.is) c.requires.4))
 
 pub overflow_add-result-in-Open : goal.overflow_add-result-in-Open
 overflow_add-result-in-Open c =
     let h = at_step _ (c.in-Some.is ∙ ap Some c.in-Open.is) c.requires.4 in
-    omega (arith, next_small h, open_small h _ _ _ c.requires.5 (puts_at c.from-in-Open-2.ensures c.clear_bit.ensures))
+    omega (arith, next_small h, open_small h _ _ _ c.requires.5 (puts_at c.from-in-Open-2.ensures c.put_bit-in-Open-2.ensures))
 
 pub returns-in-Open : goal.returns-in-Open
 returns-in-Open c = λ g f p a h l.
-    open_codes (at_step _ (c.in-Some.is ∙ ap Some c.in-Open.is) h) _ _ l _ _ (puts_at c.from-in-Open.ensures c.set_bit.ensures) (puts_at c.from-in-Open-2.ensures c.clear_bit.ensures)
+    open_codes (at_step _ (c.in-Some.is ∙ ap Some c.in-Open.is) h) _ _ l _ _ (puts_at c.from-in-Open.ensures c.put_bit-in-Open.ensures) (puts_at c.from-in-Open-2.ensures c.put_bit-in-Open-2.ensures)
 
 pub overflow_mul-there : goal.overflow_mul-there
 overflow_mul-there c = rw c.from-in-Go.ensures (omega (arith, go_there (at_step _ (c.in-Some.is ∙ ap Some c.in-Go.is) c.requires.4)))
@@ -75,8 +75,8 @@ returns-else-evaluate c = λ g f p a h l.
 pub overflow_add-waiting : goal.overflow_add-waiting
 overflow_add-waiting c = omega (arith, next_small c.requires.4, c.requires.5, wide c.requires.4)
 
-pub bounds-bases-from : goal.bounds-bases-from
-bounds-bases-from c = rw c.from-in-Call.ensures (call_in (at_step _ (c.in-Some.is ∙ ap Some c.in-Call.is) c.requires.4))
+pub bounds-source-from : goal.bounds-source-from
+bounds-source-from c = rw c.from-in-Call.ensures (call_in (at_step _ (c.in-Some.is ∙ ap Some c.in-Call.is) c.requires.4))
 
 pub returns-in-Call : goal.returns-in-Call
 returns-in-Call c = λ g f p a h l. rw c.from-in-Call.ensures (call_codes (at_step _ (c.in-Some.is ∙ ap Some c.in-Call.is) h) _ _)
