@@ -1,8 +1,9 @@
 -- Going through the procedures that are called: the call places of each are listed behind those of the
 -- one before.
-use Rattle.std.proofs.Common.{◌≡◌, ℕ, ◌+◌, ◌<◌, ◌≤◌, List, length, get_or, set, take, sym, refl, ap, ◌∙◌, subst, inl, inr, arith}
+use Rattle.std.proofs.Common.{◌≡◌, ℕ, zero, suc, ◌+◌, ◌-◌, ◌<◌, ◌≤◌, List, ◌∷◌, length, length-set, length-drop, add-one, rules, drop, get_or, set, take, sym, refl, ap, ◌∙◌, subst, inl, inr, arith}
 use mathlib.Core.Option.{some}
-use Rattle.std.proofs.lemmas.List.{get_or-set_same, get_or-set_other, get_or-take, length-take}
+use Rattle.std.proofs.lemmas.List.{get_or-set_same, get_or-set_other, get_or-take, length-take, places}
+use borrow.Rule.Slice.PartMut.{put_mid}
 use Rattle.std.proofs.lemmas.Bool.{cases_eq, cases_lt}
 use Rattle.program.specs.Program.{nth, call, Proc, Prog}
 use Rattle.program.specs.Rows.{Reads}
@@ -26,18 +27,18 @@ pub record Part (g : Prog) (starts sites : List ℕ) (count e : ℕ) : Type 0 wh
   pub all : (f : ℕ) (p : Proc) (a d : ℕ) → d < e → nth g.procs f ≡ some p → nth p.steps a ≡ some (call d) → (s : ℕ) × (get_or starts d 0 ≤ s) × (s < get_or starts (d + 1) 0) × (get_or sites s 0 ≡ loc g f p a 0)
 
 -- and the words are as many as they were
-pub record Gathered (src : Source) (n : ℕ) (starts : List ℕ) (y : Sites) (e : ℕ) : Type 0 where
+pub record Gathered (src : Source) (n : ℕ) (ends : List ℕ) (y : Sites) (e : ℕ) : Type 0 where
   pub long : length y.words.now ≡ n
-  pub it : (g : Prog) → Known src.bytes.now src.header src.bases.now g → Part g starts y.words.now y.count e
+  pub it : (g : Prog) → Known src.bytes.now src.header src.bases.now g → Part g (0 ∷ ends) y.words.now y.count e
 
-pub gathered_first : (src : Source) (starts : List ℕ) (y : Sites) → y.count ≡ 0 → 0 < length starts → Gathered src (length y.words.now) (set starts 0 0) y 0
-gathered_first src starts y zero l = record {
+pub gathered_first : (src : Source) (ends : List ℕ) (y : Sites) → y.count ≡ 0 → Gathered src (length y.words.now) ends y 0
+gathered_first src ends y none = record {
   long = refl;
   it = λ g k. record {
-    few = omega arith;
-    last = get_or-set_same starts 0 0 0 l ∙ sym zero;
+    few = omega (arith, none);
+    last = sym none;
     order = λ d x. absurd (omega arith);
-    each = λ s x. absurd (omega arith);
+    each = λ s x. absurd (omega (arith, none));
     all = λ f p a d x. absurd (omega arith);
   };
 }
@@ -85,8 +86,10 @@ module _ {g : Prog} {starts : List ℕ} {y : Sites} {e : ℕ} (v : Part g starts
       pub part_next : Part g (set starts (e + 1) z.count) z.words.now z.count (e + 1)
       part_next = record { few = omega (arith, v.few, i.few, below_more e g.procs); last = new_start; order = order1; each = each1; all = all1 }
 
-pub gathered_next : {src : Source} {n : ℕ} {starts : List ℕ} {y : Sites} {e : ℕ} → Gathered src n starts y e → {g : Prog} → Known src.bytes.now src.header src.bases.now g → (z : Sites) → CalleeListed src e y z → e + 1 < length starts → Gathered src n (set starts (e + 1) z.count) z (e + 1)
-gathered_next v {g} k z i room = record { long = (i g k).adds.long ∙ v.long; it = λ g o. part_next (v.it g o) z (i g o) room }
+pub gathered_next : {src : Source} {n : ℕ} {ends : List ℕ} {y : Sites} {e : ℕ} → Gathered src n ends y e → {g : Prog} → Known src.bytes.now src.header src.bases.now g → (z : Sites) → CalleeListed src e y z → e < length ends → Gathered src n (set ends e z.count) z (e + 1)
+gathered_next {ends = ends} {e = e} v {g} k z i room =
+    let same : set (0 ∷ ends) (e + 1) z.count ≡ 0 ∷ set ends e z.count = rw add-one refl in
+    record { long = (i g k).adds.long ∙ v.long; it = λ g o. subst (λ l. Part g l z.words.now z.count (e + 1)) same (part_next (v.it g o) z (i g o) (omega arith)) }
 
 -- the part of the words that is filled is the list
 sites_cut : {g : Prog} → Good g → {starts sites : List ℕ} {count : ℕ} → SitesAre g starts sites count → SitesAre g starts (take count sites) (length (take count sites))
@@ -102,14 +105,28 @@ sites_cut {g} w {starts} {sites} {count} si =
           (x.0, x.1, x.2, get_or-take count sites x.0 0 (omega (arith, x.2, m.1)) ∙ x.3);
     }
 
-pub gathered_last : {src : Source} {n : ℕ} {starts : List ℕ} {y : Sites} {e : ℕ} → Gathered src n starts y e → e ≡ src.header.procs → (g : Prog) → Known src.bytes.now src.header src.bases.now g → steps g.procs ≤ n → (r : List ℕ) → r ≡ take y.count y.words.now → SitesListed src.bytes.now src.header starts r (length r)
-gathered_last {src} {n} {starts} {y} {e} v l g k room r cut g1 k1 =
+pub ends_long : (starts : List ℕ) (n : ℕ) → n < length starts → length (take (n + 1 - 1) (drop 1 (set starts 0 0))) ≡ n
+ends_long starts n l = grind (arith, length-take, length-drop, length-set)
+
+-- the first of the starts is 0, and the others are the ends
+pub starts_are : (starts ends : List ℕ) (n : ℕ) → length ends ≡ n → n < length starts → (d : ℕ) → d ≤ n → get_or (put_mid 1 (n + 1 - 1) (set starts 0 0) ends) d 0 ≡ get_or (0 ∷ ends) d 0
+starts_are starts ends n l m zero k = let x = get_or-set_same starts 0 0 0 (omega arith) in let y = length-set starts 0 0 in (let q : get_or (put_mid 1 (n + 1 - 1) (set starts 0 0) ends) 0 0 ≡ get_or (set starts 0 0) 0 0 = search (rules, places) in q ∙ x)
+starts_are starts ends n l m (suc d) k = let y = length-set starts 0 0 in (let q : get_or (put_mid 1 (n + 1 - 1) (set starts 0 0) ends) (suc d) 0 ≡ get_or ends (suc d - 1) 0 = search (rules, places) in q ∙ ap (λ i. get_or ends i 0) (omega arith))
+
+pub gathered_last : {src : Source} {n : ℕ} {ends : List ℕ} {y : Sites} {e : ℕ} → Gathered src n ends y e → e ≡ src.header.procs → (g : Prog) → Known src.bytes.now src.header src.bases.now g → steps g.procs ≤ n →
+    (starts : List ℕ) → ((d : ℕ) → d ≤ src.header.procs → get_or starts d 0 ≡ get_or (0 ∷ ends) d 0) → (r : List ℕ) → r ≡ take y.count y.words.now → SitesListed src.bytes.now src.header starts r (length r)
+gathered_last {src} {n} {ends} {y} {e} v l g k room starts are r cut g1 k1 =
     let x = v.it g k in
     let z : e ≡ length g.procs = l ∙ k.headed.header.procs in
     let is : SitesAre g starts y.words.now y.count = record {
       within = omega (arith, x.few, below_few e g.procs, v.long);
-      order = λ d m. x.order d (omega arith);
+      order = λ d m.
+          let o = x.order d (omega arith) in
+          (omega (arith, are d (omega (arith, l)), are (d + 1) (omega (arith, l)), o.0), omega (arith, are (d + 1) (omega (arith, l)), o.1));
       each = x.each;
-      all = λ f p a d t c. x.all f p a d (omega (arith, ok_step (good k.headed.reads) f p a (call d) t c)) t c;
+      all = λ f p a d t c.
+          let m = ok_step (good k.headed.reads) f p a (call d) t c in
+          let o = x.all f p a d (omega (arith, m)) t c in
+          (o.0, omega (arith, o.1, are d (omega (arith, l, m))), omega (arith, o.2, are (d + 1) (omega (arith, l, m))), o.3);
     } in
     rw cut (subst (λ m. SitesAre m starts (take y.count y.words.now) (length (take y.count y.words.now))) (one_program src.bytes.now g g1 k.headed.reads k1.reads) (sites_cut (good k.headed.reads) is))

@@ -86,9 +86,10 @@ pub fn list_sites<'s>(source: Source, starts: &mut [u32], sites: &'s mut [u32]) 
         count: 0,
     };
     starts[0] = 0;
-    for callee in 0..source.header.procs {
+    let ends = &mut starts[1..source.header.procs + 1];
+    for (callee, end) in ends.iter_mut().enumerate() {
         listed.list_callee(source, callee);
-        starts[callee + 1] = listed.count as u32;
+        *end = listed.count as u32;
     }
     listed.filled()
 }
