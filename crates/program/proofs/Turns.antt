@@ -1,6 +1,6 @@
 -- Walks through procedures and steps: what was read at each turn, and that a walk through a program that
 -- was read ends only behind its last procedure, and behind the last step of a procedure.
-use Rattle.std.proofs.Common.{◌≡◌, ℕ, suc, ◌+◌, ◌<◌, ◌≤◌, ◌⊎◌, List, length, drop, ◌++◌, Some, None, Ok, Err, Result, ap, ◌∙◌, subst, inl, inr, append_assoc, ⊎_elim, arith}
+use Rattle.std.proofs.Common.{◌≡◌, ℕ, suc, ◌+◌, ◌<◌, ◌≤◌, List, length, drop, ◌++◌, Some, None, Ok, Err, Result, ap, ◌∙◌, subst, inl, inr, append_assoc, ⊎_elim, arith}
 use Rattle.std.proofs.lemmas.Bool.{cases_lt}
 use Rattle.std.specs.Result.{result_ok}
 use Rattle.program.specs.declared.procedures.Procedure.{Procedure}
@@ -34,7 +34,7 @@ module _ {s : List ℕ} {h : Header} {f at : ℕ} {w : Procedures} (here : AtPro
 
   -- none came: no procedure that is fine stands here, or the walk is behind the last one
   pub procedure_last : (v : Procedures) → GivesProcedure w None v → (f < h.procs → Nothing row_p (OkP h.shared h.procs) s at → ⊥) → f ≡ h.procs
-  procedure_last v k there = ⊎_elim (λ z. omega (arith, here.left, z)) none k
+  procedure_last v k there = ⊎_elim (λ z. omega (arith, here.left, z)) none k.1
     where
       none : Nothing row_p (OkP w.header.shared w.header.procs) w.bytes.now w.at → f ≡ h.procs
       none q =
@@ -57,7 +57,7 @@ module _ {s : List ℕ} {c : Scope} {n a at : ℕ} {w : Steps} (here : AtStep s 
       )
 
   pub step_last : (v : Steps) → GivesStep w None v → (a < n → Nothing row_i (InScope c) s at → ⊥) → a ≡ n
-  step_last v k there = ⊎_elim (λ z. omega (arith, here.left, z)) none k
+  step_last v k there = ⊎_elim (λ z. omega (arith, here.left, z)) none k.1
     where
       none : Nothing row_i (InScope w.scope) w.bytes.now w.at → a ≡ n
       none q =

@@ -16,12 +16,13 @@ pub record AtProcedure (s : List ℕ) (h : Header) (f to : ℕ) (w : Procedures)
   pub at : w.at ≡ to
   pub left : f + w.left ≡ h.procs
 
--- the next procedure was read, and passed; or none is left, or what comes next is none
+-- the next procedure was read, and the walk is behind it; or the walk stays where it is, since none is
+-- left or what stands there is none
 abbrev pub GivesProcedure : Procedures → Option Procedure → Procedures → Type 0
 GivesProcedure w (Some d) v =
     ReadProc w.header.shared w.header.procs w.bytes.now w.at (Ok d)
     × (v.bytes ≡ w.bytes) × (v.header ≡ w.header) × (v.at ≡ d.end) × (v.left + 1 ≡ w.left)
-GivesProcedure w None v = (w.left ≡ 0) ⊎ Nothing row_p (OkP w.header.shared w.header.procs) w.bytes.now w.at
+GivesProcedure w None v = (v ≡ w) × ((w.left ≡ 0) ⊎ Nothing row_p (OkP w.header.shared w.header.procs) w.bytes.now w.at)
 
 -- w has passed a of n steps in the scope c, and the next one stands at `to`
 pub record AtStep (s : List ℕ) (c : Scope) (n a to : ℕ) (w : Steps) : Type 0 where
@@ -34,4 +35,4 @@ abbrev pub GivesStep : Steps → Option Found → Steps → Type 0
 GivesStep w (Some d) v =
     ReadStep w.scope w.bytes.now w.at (Ok d)
     × (v.bytes ≡ w.bytes) × (v.scope ≡ w.scope) × (v.at ≡ d.end) × (v.left + 1 ≡ w.left)
-GivesStep w None v = (w.left ≡ 0) ⊎ Nothing row_i (InScope w.scope) w.bytes.now w.at
+GivesStep w None v = (v ≡ w) × ((w.left ≡ 0) ⊎ Nothing row_i (InScope w.scope) w.bytes.now w.at)

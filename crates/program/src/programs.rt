@@ -91,16 +91,15 @@ fn read_procedures(bytes: &[u8], shared: u8, procs: usize) -> Result<Tally, Refu
         }
         let found = read_procedure(bytes, end, shared, procs)?;
         let size = table_size(shared, found.own, found.steps);
-        tally = Tally {
-            count: tally.count + 1,
-            table: tally.table + size,
-        };
+        tally.count += 1;
+        tally.table += size;
         end = found.end;
     }
     Ok(tally)
 }
 
 // The program that these bytes are.
+#[tactic(auto, using(crate::proofs::Prefix::one_program))]
 pub fn read(bytes: &[u8]) -> Result<Header, Refusal>
     ensures reads { ReadProgram bytes.now result }
     ensures one { OneProgram }

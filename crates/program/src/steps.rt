@@ -2,8 +2,9 @@
 ghost use Rattle.std.specs.Prelude.{◌≡◌, ◌+◌};
 ghost use Rattle.program.specs.Reading.{ReadStep};
 
-use crate::bytes::{read_byte, read_number};
+use crate::bytes::{read_kind, read_number};
 use crate::expressions::read_expression;
+use crate::kinds::StepKind;
 use crate::refusals::{Reason, Refusal};
 
 // A procedure's number: procedure 0 begins.
@@ -67,9 +68,8 @@ impl Scope {
 pub fn read_step(bytes: &[u8], at: usize, scope: Scope) -> Result<Found, Refusal>
     ensures { ReadStep scope bytes.now at result }
 {
-    let tag = read_byte(bytes, at)?;
-    match tag {
-        0 => {
+    match read_kind(bytes, at)? {
+        StepKind::Set => {
             let var = read_number(bytes, at + 1, scope.vars, Reason::NoSuchVariable)?;
             let end = read_expression(bytes, at + 2, scope.vars)?;
             Ok(Found {
@@ -80,15 +80,15 @@ pub fn read_step(bytes: &[u8], at: usize, scope: Scope) -> Result<Found, Refusal
                 end,
             })
         }
-        1 => {
+        StepKind::Open => {
             let open = read_number(bytes, at + 1, scope.vars, Reason::NoSuchVariable)?;
             Ok(Found {
                 step: Step::Open(VarNo(open)),
                 end: at + 2,
             })
         }
-        2 => {
-            let places = scope.last.0 as usize + 1;
+        StepKind::Go => {
+            let places = usize::from(scope.last.0) + 1;
             let place = read_number(bytes, at + 1, places, Reason::NoSuchPlace)?;
             let past = read_expression(bytes, at + 2, scope.vars)?;
             Ok(Found {
@@ -99,20 +99,16 @@ pub fn read_step(bytes: &[u8], at: usize, scope: Scope) -> Result<Found, Refusal
                 end: past,
             })
         }
-        3 => {
+        StepKind::Call => {
             let callee = read_number(bytes, at + 1, scope.procs, Reason::NoSuchProcedure)?;
             Ok(Found {
                 step: Step::Call(ProcNo(callee)),
                 end: at + 2,
             })
         }
-        4 => Ok(Found {
+        StepKind::Return => Ok(Found {
             step: Step::Return,
             end: at + 1,
-        }),
-        5..=255 => Err(Refusal {
-            at,
-            reason: Reason::UnknownStep,
         }),
     }
 }

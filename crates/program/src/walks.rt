@@ -1,6 +1,6 @@
 // Walking through a program that was read: its procedures, and the steps of each, in order. Both walks
 // end early only where what comes next can't be read, which in a program that was read is nowhere.
-ghost use Rattle.std.specs.Prelude.{◌≡◌, ◌≤◌};
+ghost use Rattle.program.specs.Walks.{AtProcedure, AtStep};
 
 use crate::procedures::{Procedure, read_procedure};
 use crate::programs::Header;
@@ -18,10 +18,7 @@ pub struct Procedures<'b> {
 impl<'b> Procedures<'b> {
     // All procedures of the program that was read as `header`, which follow its first byte.
     pub fn new(bytes: &'b [u8], header: Header) -> Procedures<'b>
-        ensures bytes { result.bytes.now ≡ bytes.now }
-        ensures header { result.header ≡ header }
-        ensures at { result.at ≡ 1 }
-        ensures left { result.left ≡ header.procs }
+        ensures { AtProcedure bytes.now header 0 1 result }
     {
         Procedures {
             bytes,
@@ -66,10 +63,7 @@ pub struct Steps<'b> {
 impl<'b> Steps<'b> {
     // All steps of the procedure that was read as `procedure`, whose steps have this scope.
     pub fn new(bytes: &'b [u8], procedure: Procedure, scope: Scope) -> Steps<'b>
-        ensures bytes { result.bytes.now ≡ bytes.now }
-        ensures scope { result.scope ≡ scope }
-        ensures at { result.at ≡ procedure.first }
-        ensures left { result.left ≡ procedure.steps }
+        ensures { AtStep bytes.now scope procedure.steps 0 procedure.first result }
     {
         Steps {
             bytes,
