@@ -46,15 +46,15 @@ pub record Walk (s : List ℕ) (h : Header) (t : Enumerate Procedures) : Type 0 
   pub at : AtProcedure s h (enumerate_count t) (enumerate_source t).at (enumerate_source t)
   pub rest : (g : Prog) → Headed s h g → Rest g s (enumerate_count t) (enumerate_source t).at
 
-pub walk_first : {s : List ℕ} {h : Header} (t : Enumerate Procedures) (w : Procedures) → enumerate_source t ≡ w → enumerate_count t ≡ 0 → w.bytes.now ≡ s → w.header ≡ h → w.at ≡ 1 → w.left ≡ h.procs → Walk s h t
-walk_first {s} {h} t w e c bytes header at left = record {
+pub walk_first : {s : List ℕ} {h : Header} (t : Enumerate Procedures) (w : Procedures) → enumerate_source t ≡ w → enumerate_count t ≡ 0 → AtProcedure s h 0 1 w → Walk s h t
+walk_first {s} {h} t w e c a = record {
   at = record {
-    bytes = ap (λ (z : Procedures). z.bytes.now) e ∙ bytes;
-    header = ap (λ (z : Procedures). z.header) e ∙ header;
+    bytes = ap (λ (z : Procedures). z.bytes.now) e ∙ a.bytes;
+    header = ap (λ (z : Procedures). z.header) e ∙ a.header;
     at = refl;
-    left = omega (arith, c, ap (λ (z : Procedures). z.left) e, left);
+    left = omega (arith, c, ap (λ (z : Procedures). z.left) e, a.left);
   };
-  rest = λ g r. subst (λ n. Rest g s n (enumerate_source t).at) (sym c) (subst (Rest g s 0) (sym (ap (λ (z : Procedures). z.at) e ∙ at)) (rest_first r.reads));
+  rest = λ g r. subst (λ n. Rest g s n (enumerate_source t).at) (sym c) (subst (Rest g s 0) (sym (ap (λ (z : Procedures). z.at) e ∙ a.at)) (rest_first r.reads));
 }
 
 module _ {s : List ℕ} {h : Header} {t : Enumerate Procedures} (k : Walk s h t) (u : Enumerate Procedures) where

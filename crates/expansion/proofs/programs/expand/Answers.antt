@@ -5,9 +5,8 @@ use Rattle.expansion.proofs.programs.expand.Goals as goal
 
 pub loop-f-init : goal.loop-f-init
 loop-f-init c =
-    let n = c.new.ensures in
     let e = c.enumerate-f-items.ensures in
-    rw c.into_iter-f-iterator.ensures.into_iter_gives (sofar_first _ _ (walk_first _ _ e.source e.count n.bytes n.header n.at n.left) e.count)
+    rw c.into_iter-f-iterator.ensures.into_iter_gives (sofar_first _ _ (walk_first _ _ e.source e.count c.new.ensures) e.count)
 
 pub returns : goal.returns
 returns c = sofar_all c.loop-f.invariant c.next.new.self c.in-None.ensures.steps

@@ -6,9 +6,8 @@ use Rattle.expansion.proofs.programs.list_bases.Goals as goal
 
 pub loop-f-init : goal.loop-f-init
 loop-f-init c =
-    let n = c.new.ensures in
     let e = c.enumerate-f-items.ensures in
-    rw c.into_iter-f-iterator.ensures.into_iter_gives (listed_first _ (walk_first _ _ e.source e.count n.bytes n.header n.at n.left) e.count)
+    rw c.into_iter-f-iterator.ensures.into_iter_gives (listed_first _ (walk_first _ _ e.source e.count c.new.ensures) e.count)
 
 pub bounds-bases-f : goal.bounds-bases-f
 bounds-bases-f c = omega (arith, walk_here c.loop-f.invariant.walk _ _ _ c.in-Some.ensures.steps, c.requires.1.header.procs, c.requires.2)

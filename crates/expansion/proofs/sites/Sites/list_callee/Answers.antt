@@ -5,9 +5,8 @@ use Rattle.expansion.proofs.sites.Sites.list_callee.Goals as goal
 
 pub loop-f-init : goal.loop-f-init
 loop-f-init c =
-    let n = c.new.ensures in
     let e = c.enumerate-f-items.ensures in
-    rw c.into_iter-f-iterator.ensures.into_iter_gives (passing_first _ _ _ (walk_first _ _ e.source e.count n.bytes n.header n.at n.left) e.count)
+    rw c.into_iter-f-iterator.ensures.into_iter_gives (passing_first _ _ _ (walk_first _ _ e.source e.count c.new.ensures) e.count)
 
 pub list_procedure-requires : goal.list_procedure-requires
 list_procedure-requires c =
