@@ -29,7 +29,7 @@ pub record Part (g : Prog) (starts sites : List ℕ) (count e : ℕ) : Type 0 wh
 -- and the words are as many as they were
 pub record Gathered (src : Source) (n : ℕ) (ends : List ℕ) (y : Sites) (e : ℕ) : Type 0 where
   pub long : length y.words.now ≡ n
-  pub it : (g : Prog) → Known src.bytes.now src.header src.bases.now g → Part g (0 ∷ ends) y.words.now y.count e
+  pub it : (g : Prog) → Known src g → Part g (0 ∷ ends) y.words.now y.count e
 
 pub gathered_first : (src : Source) (ends : List ℕ) (y : Sites) → y.count ≡ 0 → Gathered src (length y.words.now) ends y 0
 gathered_first src ends y none = record {
@@ -86,7 +86,7 @@ module _ {g : Prog} {starts : List ℕ} {y : Sites} {e : ℕ} (v : Part g starts
       pub part_next : Part g (set starts (e + 1) z.count) z.words.now z.count (e + 1)
       part_next = record { few = omega (arith, v.few, i.few, below_more e g.procs); last = new_start; order = order1; each = each1; all = all1 }
 
-pub gathered_next : {src : Source} {n : ℕ} {ends : List ℕ} {y : Sites} {e : ℕ} → Gathered src n ends y e → {g : Prog} → Known src.bytes.now src.header src.bases.now g → (z : Sites) → CalleeListed src e y z → e < length ends → Gathered src n (set ends e z.count) z (e + 1)
+pub gathered_next : {src : Source} {n : ℕ} {ends : List ℕ} {y : Sites} {e : ℕ} → Gathered src n ends y e → {g : Prog} → Known src g → (z : Sites) → CalleeListed src e y z → e < length ends → Gathered src n (set ends e z.count) z (e + 1)
 gathered_next {ends = ends} {e = e} v {g} k z i room =
     let same : set (0 ∷ ends) (e + 1) z.count ≡ 0 ∷ set ends e z.count = rw add-one refl in
     record { long = (i g k).adds.long ∙ v.long; it = λ g o. subst (λ l. Part g l z.words.now z.count (e + 1)) same (part_next (v.it g o) z (i g o) (omega arith)) }
@@ -113,7 +113,7 @@ pub starts_are : (starts ends : List ℕ) (n : ℕ) → length ends ≡ n → n 
 starts_are starts ends n l m zero k = let x = get_or-set_same starts 0 0 0 (omega arith) in let y = length-set starts 0 0 in (let q : get_or (put_mid 1 (n + 1 - 1) (set starts 0 0) ends) 0 0 ≡ get_or (set starts 0 0) 0 0 = search (rules, places) in q ∙ x)
 starts_are starts ends n l m (suc d) k = let y = length-set starts 0 0 in (let q : get_or (put_mid 1 (n + 1 - 1) (set starts 0 0) ends) (suc d) 0 ≡ get_or ends (suc d - 1) 0 = search (rules, places) in q ∙ ap (λ i. get_or ends i 0) (omega arith))
 
-pub gathered_last : {src : Source} {n : ℕ} {ends : List ℕ} {y : Sites} {e : ℕ} → Gathered src n ends y e → e ≡ src.header.procs → (g : Prog) → Known src.bytes.now src.header src.bases.now g → steps g.procs ≤ n →
+pub gathered_last : {src : Source} {n : ℕ} {ends : List ℕ} {y : Sites} {e : ℕ} → Gathered src n ends y e → e ≡ src.header.procs → (g : Prog) → Known src g → steps g.procs ≤ n →
     (starts : List ℕ) → ((d : ℕ) → d ≤ src.header.procs → get_or starts d 0 ≡ get_or (0 ∷ ends) d 0) → (r : List ℕ) → r ≡ take y.count y.words.now → SitesListed src.bytes.now src.header starts r (length r)
 gathered_last {src} {n} {ends} {y} {e} v l g k room starts are r cut g1 k1 =
     let x = v.it g k in

@@ -49,7 +49,7 @@ module _ {e : ℕ} {x y : Sites} {f : ℕ} {g : Prog} (v : Along e x y f g) {p :
 -- the calls of procedure e in the procedures before the walk are listed
 pub record Passing (src : Source) (e : ℕ) (x y : Sites) (t : Enumerate Procedures) : Type 0 where
   pub walk : Walk src.bytes.now src.header t
-  pub it : (g : Prog) → Known src.bytes.now src.header src.bases.now g → Along e x y (enumerate_count t) g
+  pub it : (g : Prog) → Known src g → Along e x y (enumerate_count t) g
 
 pub passing_first : (src : Source) (e : ℕ) (x : Sites) {t : Enumerate Procedures} → Walk src.bytes.now src.header t → enumerate_count t ≡ 0 → Passing src e x x t
 passing_first src e x k c = record { walk = k; it = λ g o. subst (λ n. Along e x x n g) (sym c) (record { few = omega arith; adds = adds_none x (λ n m. omega (arith, m.early)) }) }
@@ -62,10 +62,10 @@ module _ {src : Source} {e : ℕ} {x y : Sites} {t : Enumerate Procedures} (v : 
       record { few = omega (arith, z.few); adds = subst (λ f. Adds (ProcCalls g e f) x y) n z.adds }
 
   module _ (f : ℕ) (d : Procedure) (m : enumerate_steps GivesProcedure t (Some (f, d)) u) where
-    along : {g : Prog} → Known src.bytes.now src.header src.bases.now g → Along e x y f g
+    along : {g : Prog} → Known src g → Along e x y f g
     along {g} o = subst (λ n. Along e x y n g) (sym m.1) (v.it g o)
 
-    pub passing_room : {g : Prog} (o : Known src.bytes.now src.header src.bases.now g) → y.count + calls_in e (here v.walk u f d m g o.headed).p.steps ≤ x.count + calls_of e g.procs
+    pub passing_room : {g : Prog} (o : Known src g) → y.count + calls_in e (here v.walk u f d m g o.headed).p.steps ≤ x.count + calls_of e g.procs
     passing_room {g} o = along_room (along o) (here v.walk u f d m g o.headed).there
 
     pub passing_next : (z : Sites) → ProcListed src d (first_place src f d) e y z → Passing src e x z u

@@ -88,7 +88,7 @@ module _ {s : List ℕ} {h : Header} {t : Enumerate Procedures} (k : Walk s h t)
 abbrev pub first_place : Source → ℕ → Procedure → Place
 first_place x f d = record { base = get_or x.bases.now f 0; first = get_or x.bases.now f 0; width = 2 ^ (x.header.shared + d.own); shared = 2 ^ x.header.shared }
 
-pub proc_is : (x : Source) (f : ℕ) (d : Procedure) {g : Prog} → Known x.bytes.now x.header x.bases.now g → f < x.header.procs → (y : Here x.bytes.now g f d) → ProcIs x d (first_place x f d) g f y.p
+pub proc_is : (x : Source) (f : ℕ) (d : Procedure) {g : Prog} → Known x g → f < x.header.procs → (y : Here x.bytes.now g f d) → ProcIs x d (first_place x f d) g f y.p
 proc_is x f d k l y =
     let r = k.headed in
     let b = (k.begins f (omega (arith, l, r.header.procs))).1 in

@@ -17,8 +17,8 @@ use Rattle.expansion.specs.Programs.{Headed, Begin, Known, Expanded}
 use Rattle.expansion.proofs.Walking.{Walk, walk_last, walk_here, walk_next, here, first_place, proc_is}
 
 -- the bytes are one program
-pub known : {s : List ℕ} {h : Header} {b : List ℕ} {g : Prog} → Known s h b g → (g1 : Prog) → Headed s h g1 → Known s h b g1
-known {s} {b = b} {g = g} k g1 r = record { headed = r; begins = subst (λ y. Begin b y (length y.procs)) (one_program s g g1 k.headed.reads r.reads) k.begins }
+pub known : {x : Source} {g : Prog} → Known x g → (g1 : Prog) → Headed x.bytes.now x.header g1 → Known x g1
+known {x} {g} k g1 r = record { headed = r; begins = subst (λ y. Begin x.bases.now y (length y.procs)) (one_program x.bytes.now g g1 k.headed.reads r.reads) k.begins }
 
 -- the procedures before the walk are written
 pub record Sofar (s : List ℕ) (h : Header) (starts w : List ℕ) (t : Enumerate Procedures) : Type 0 where
@@ -29,7 +29,7 @@ pub sofar_first : {s : List ℕ} {h : Header} (starts w : List ℕ) {t : Enumera
 sofar_first starts w k c = record { walk = k; upto = λ g r n f p a v l. absurd (omega (arith, l, before_none g.shared g.procs, ap (before g.shared g.procs) c)) }
 
 module _ {x : Source} {starts w : List ℕ} {t : Enumerate Procedures} (k : Sofar x.bytes.now x.header starts w t) (u : Enumerate Procedures) where
-  pub sofar_next : {g : Prog} → Known x.bytes.now x.header x.bases.now g → (f : ℕ) (d : Procedure) → enumerate_steps GivesProcedure t (Some (f, d)) u → (w' : List ℕ) → ProcDone x d (first_place x f d) (record { from = get_or starts f 0; until = get_or starts (f + 1) 0 }) w w' → Sofar x.bytes.now x.header starts w' u
+  pub sofar_next : {g : Prog} → Known x g → (f : ℕ) (d : Procedure) → enumerate_steps GivesProcedure t (Some (f, d)) u → (w' : List ℕ) → ProcDone x d (first_place x f d) (record { from = get_or starts f 0; until = get_or starts (f + 1) 0 }) w w' → Sofar x.bytes.now x.header starts w' u
   sofar_next o f d e w' done = record {
     walk = walk_next k.walk u f d e;
     upto = λ g r.

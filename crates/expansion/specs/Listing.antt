@@ -92,7 +92,7 @@ pub record InProgram (g : Prog) (e : ℕ) (x y : Sites) : Type 0 where
   pub adds : Adds (ProcCalls g e (length g.procs)) x y
 
 abbrev pub CalleeListed : Source → ℕ → Sites → Sites → Type 0
-CalleeListed src e x y = (g : Prog) → Known src.bytes.now src.header src.bases.now g → InProgram g e x y
+CalleeListed src e x y = (g : Prog) → Known src g → InProgram g e x y
 
 -- the calls of all procedures are listed
 abbrev pub SitesListed : List ℕ → Header → List ℕ → List ℕ → ℕ → Type 0

@@ -1,4 +1,4 @@
-// The words of one node. No `From` of std takes a u32 to a usize, so those are cast by `as`.
+// The words of one node, in lent memory: four for each.
 ghost use Rattle.std.specs.Prelude.{◌≡◌, ℕ, ◌+◌, ◌*◌, ◌^◌, ◌<◌, length};
 ghost use Rattle.program.specs.Program.{Prog, Proc};
 ghost use Rattle.expansion.specs.Words.{Wrote};
@@ -23,6 +23,18 @@ pub enum Action {
     Flow { first: u32, second: u32 },
     Call { callee: u32, waiting: u32 },
     Return(Callers),
+}
+
+impl Action {
+    // On to one node.
+    fn flow_to(node: u32) -> Action
+        ensures { result ≡ Action.Flow node node }
+    {
+        Action::Flow {
+            first: node,
+            second: node,
+        }
+    }
 }
 
 // A node, whose procedure begins at `base`.
@@ -89,16 +101,8 @@ fn action_of(
     let next = place.first + place.width;
     match found {
         Step::Set { var, expr } => {
-            let to = next
-                + put_bit(
-                    values,
-                    u32::from(var.0),
-                    evaluate(source.bytes, expr.0, values).holds,
-                );
-            Action::Flow {
-                first: to,
-                second: to,
-            }
+            let yes = evaluate(source.bytes, expr.0, values).holds;
+            Action::flow_to(next + put_bit(values, u32::from(var.0), yes))
         }
         Step::Open(var) => Action::Flow {
             first: next + put_bit(values, u32::from(var.0), true),
@@ -109,14 +113,10 @@ fn action_of(
             expr,
         } => {
             let there = place.base + u32::from(target.0) * place.width;
-            let to = if evaluate(source.bytes, expr.0, values).holds {
-                there + values
+            if evaluate(source.bytes, expr.0, values).holds {
+                Action::flow_to(there + values)
             } else {
-                next + values
-            };
-            Action::Flow {
-                first: to,
-                second: to,
+                Action::flow_to(next + values)
             }
         }
         Step::Call(callee) => {

@@ -1,4 +1,4 @@
-// The words of all nodes of a place.
+// The words of all nodes of a place. A node's number is cast by `as`, since std has no `From` of a u32 for usize.
 ghost use Rattle.std.specs.Prelude.{ℕ, ◌+◌, ◌*◌, ◌≤◌, length};
 ghost use Rattle.program.specs.Program.{Prog, Proc};
 ghost use Rattle.program.specs.Table.{total};
@@ -19,6 +19,7 @@ pub fn expand_place(
     requires { (g : Prog) × (f : ℕ) × (p : Proc) × (a : ℕ) × PlaceIs source step place g f p a × (4 * total g.shared g.procs ≤ length words.old) }
     ensures { PlaceDone source.entry step place callers words.old words.new place.width }
 {
+    // the values are what is counted: bit x of their number is variable x
     for values in 0..place.width {
         let node = node_words(source, step, place, callers, values);
         write_node(words, (place.first + values) as usize, node);

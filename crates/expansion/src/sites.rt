@@ -65,7 +65,7 @@ impl<'s> Sites<'s> {
 
     // Lists the places that call `callee`.
     fn list_callee(&mut self, source: Source, callee: usize)
-        requires { (g : Prog) × Known source.bytes.now source.header source.bases.now g × (self.old.count + calls_of callee g.procs ≤ length self.old.words.now) }
+        requires { (g : Prog) × Known source g × (self.old.count + calls_of callee g.procs ≤ length self.old.words.now) }
         ensures { CalleeListed source.entry callee self.old self.new }
     {
         for (f, procedure) in Procedures::new(source.bytes, source.header).enumerate() {
@@ -78,7 +78,7 @@ impl<'s> Sites<'s> {
 // Lists all call places, those of each procedure in turn, and where those of each begin: the part of `sites`
 // that they fill.
 pub fn list_sites<'s>(source: Source, starts: &mut [u32], sites: &'s mut [u32]) -> &'s [u32]
-    requires { (g : Prog) × Known source.bytes.now source.header source.bases.now g × (length g.procs < length starts.old) × (steps g.procs ≤ length sites.old) }
+    requires { (g : Prog) × Known source g × (length g.procs < length starts.old) × (steps g.procs ≤ length sites.old) }
     ensures { SitesListed source.entry.bytes.now source.entry.header starts.new result.now (length result.now) }
 {
     let mut listed = Sites {
