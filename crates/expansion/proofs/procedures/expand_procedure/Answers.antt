@@ -1,10 +1,7 @@
 use Rattle.std.proofs.Common.{arith}
 use Rattle.expansion.proofs.Placed.{next_small}
-use Rattle.expansion.proofs.Stepping.{going_first, going_next, going_last, going_is, going_end}
+use Rattle.expansion.proofs.Stepping.{going_next, going_last, going_is, going_end}
 use Rattle.expansion.proofs.procedures.expand_procedure.Goals as goal
-
-pub loop-found-init : goal.loop-found-init
-loop-found-init c = going_first _ _ _ _ _ _ (rw c.into_iter-found-iterator.ensures.into_iter_gives c.steps-found-items.ensures)
 
 pub expand_place-requires : goal.expand_place-requires
 expand_place-requires c = let h = c.requires in (h.0, h.1, h.2, _, going_is c.loop-found.invariant c.next.new.self h.3 c.in-Some.found c.in-Some.ensures.steps, omega (arith, h.4))

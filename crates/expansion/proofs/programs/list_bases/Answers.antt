@@ -9,12 +9,6 @@ loop-f-init c =
     let e = c.enumerate-f-items.ensures in
     rw c.into_iter-f-iterator.ensures.into_iter_gives (listed_first _ (walk_first _ _ e.source e.count c.new.ensures) e.count)
 
-pub bounds-bases-f : goal.bounds-bases-f
-bounds-bases-f c = omega (arith, walk_here c.loop-f.invariant.walk _ _ _ c.in-Some.ensures.steps, c.requires.1.header.procs, c.requires.2)
-
-pub offset_bounds-bases-f : goal.offset_bounds-bases-f
-offset_bounds-bases-f c = omega (arith, walk_here c.loop-f.invariant.walk _ _ _ c.in-Some.ensures.steps, c.requires.1.header.procs, c.requires.1.reads.most)
-
 pub loop-f-preserved : goal.loop-f-preserved
 loop-f-preserved c =
     let e = c.in-Some.ensures.steps in

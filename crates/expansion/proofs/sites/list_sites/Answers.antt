@@ -1,9 +1,6 @@
-use Rattle.std.proofs.Common.{◌<◌, length, refl, ◌∙◌, arith}
-use Rattle.expansion.proofs.Gathering.{gathered_first, gathered_next, gathered_last, part_room, part_small, ends_long, starts_are}
+use Rattle.std.proofs.Common.{◌<◌, length, ◌∙◌, arith}
+use Rattle.expansion.proofs.Gathering.{gathered_next, gathered_last, part_room, part_small, ends_long, starts_are}
 use Rattle.expansion.proofs.sites.list_sites.Goals as goal
-
-pub loop-callee-init : goal.loop-callee-init
-loop-callee-init c = gathered_first _ _ _ refl
 
 pub list_callee-requires : goal.list_callee-requires
 list_callee-requires c = let k = c.requires.1 in (c.requires.0, k, omega (arith, part_room (c.loop-callee.invariant.it _ k), c.loop-callee.invariant.long, c.requires.3))

@@ -1,12 +1,7 @@
 use Rattle.std.proofs.Common.{arith}
-use Rattle.expansion.proofs.Walking.{walk_first, walk_here, here, proc_is}
-use Rattle.expansion.proofs.Surveying.{passing_first, passing_next, passing_last, passing_room}
+use Rattle.expansion.proofs.Walking.{walk_here, here, proc_is}
+use Rattle.expansion.proofs.Surveying.{passing_next, passing_last, passing_room}
 use Rattle.expansion.proofs.sites.Sites.list_callee.Goals as goal
-
-pub loop-f-init : goal.loop-f-init
-loop-f-init c =
-    let e = c.enumerate-f-items.ensures in
-    rw c.into_iter-f-iterator.ensures.into_iter_gives (passing_first _ _ _ (walk_first _ _ e.source e.count c.new.ensures) e.count)
 
 pub list_procedure-requires : goal.list_procedure-requires
 list_procedure-requires c =

@@ -1,9 +1,6 @@
 use Rattle.std.proofs.Common.{arith}
-use Rattle.expansion.proofs.Calling.{inside_first, inside_next, inside_last, within_small, within_room}
+use Rattle.expansion.proofs.Calling.{inside_next, inside_last, within_small, within_room}
 use Rattle.expansion.proofs.sites.Sites.list_procedure.Goals as goal
-
-pub loop-found-init : goal.loop-found-init
-loop-found-init c = inside_first _ _ _ _ _ _ (rw c.into_iter-found-iterator.ensures.into_iter_gives c.steps-found-items.ensures)
 
 pub note-requires : goal.note-requires
 note-requires c = λ x. let h = c.requires in let k = c.loop-found.invariant in omega (arith, within_room h.3 k c.next.new.self c.in-Some.found c.in-Some.ensures.steps x, (k.it _ _ _ h.3).adds.long, h.4)
