@@ -15,12 +15,12 @@ use Rattle.expansion.specs.declared.nodes.Place.{Place}
 use Rattle.expansion.specs.declared.sites.Sites.{Sites}
 use Rattle.expansion.specs.declared.source.Source.{Source}
 use Rattle.expansion.specs.Nodes.{StepIs}
-use Rattle.expansion.specs.Procs.{StepsFrom, StepsAt, StepsOf, PlaceAt, ProcIs}
+use Rattle.expansion.specs.Procs.{StepsFrom, StepsAt, PlaceAt, ProcIs}
 use Rattle.expansion.specs.Listing.{calls_in, Adds, StepCalls, IsCall, Noted, ProcListed}
 use Rattle.expansion.proofs.Placed.{next_small}
 use Rattle.expansion.proofs.Stepping.{after, place_is, place_next, step_next, step_last, steps_next}
 use Rattle.expansion.proofs.Counting.{same_same, calls_step}
-use Rattle.expansion.proofs.Collecting.{adds_none, adds_add, adds_same}
+use Rattle.expansion.proofs.Collecting.{adds_add, adds_same}
 
 -- a step that means a call of procedure e, and one that doesn't
 pub is_call : (s : List ℕ) (end e : ℕ) (d : Step) → Means s end d (call e) → IsCall d e
@@ -44,13 +44,6 @@ pub record Inside (src : Source) (d : Procedure) (q : Place) (e : ℕ) (x y : Si
   pub a : ℕ
   pub walk : StepsAt src d a t
   pub it : (g : Prog) (f : ℕ) (p : Proc) → ProcIs src d q g f p → Within src e x y a t.at r g f p
-
-pub inside_first : (src : Source) (d : Procedure) (q : Place) (e : ℕ) (x : Sites) (t : Steps) → StepsOf src d t → Inside src d q e x x t q
-inside_first src d q e x t o = record {
-  a = 0;
-  walk = o.all;
-  it = λ g f p h. record { from = subst (StepsFrom src.bytes.now p 0) (sym o.first) h.from; place = h.place; few = omega arith; adds = adds_none x (λ n m. omega (arith, m.early)) };
-}
 
 module _ {src : Source} {d : Procedure} {q : Place} {g : Prog} {f : ℕ} {p : Proc} (h : ProcIs src d q g f p)
     {e : ℕ} {x y : Sites} {t : Steps} {r : Place} (k : Inside src d q e x y t r) (u : Steps) (r1 : Found) (m : GivesStep t (Some r1) u) where

@@ -31,18 +31,6 @@ pub record Gathered (src : Source) (n : ℕ) (ends : List ℕ) (y : Sites) (e : 
   pub long : length y.words.now ≡ n
   pub it : (g : Prog) → Known src g → Part g (0 ∷ ends) y.words.now y.count e
 
-pub gathered_first : (src : Source) (ends : List ℕ) (y : Sites) → y.count ≡ 0 → Gathered src (length y.words.now) ends y 0
-gathered_first src ends y none = record {
-  long = refl;
-  it = λ g k. record {
-    few = omega (arith, none);
-    last = sym none;
-    order = λ d x. absurd (omega arith);
-    each = λ s x. absurd (omega (arith, none));
-    all = λ f p a d x. absurd (omega arith);
-  };
-}
-
 pub part_room : {g : Prog} {starts sites : List ℕ} {count e : ℕ} → Part g starts sites count e → count + calls_of e g.procs ≤ steps g.procs
 part_room {g} {e = e} v = omega (arith, v.few, below_more e g.procs, below_few (e + 1) g.procs)
 

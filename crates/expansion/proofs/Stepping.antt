@@ -21,7 +21,7 @@ use Rattle.expansion.specs.declared.nodes.Place.{Place}
 use Rattle.expansion.specs.declared.source.Source.{Source}
 use Rattle.expansion.specs.Words.{Upto}
 use Rattle.expansion.specs.Nodes.{StepIs, PlaceIs, PlaceDone}
-use Rattle.expansion.specs.Procs.{StepsFrom, StepsAt, StepsOf, PlaceAt, ProcIs, ProcDone}
+use Rattle.expansion.specs.Procs.{StepsFrom, StepsAt, PlaceAt, ProcIs, ProcDone}
 
 -- past the last step
 past : {A : Type 0} (xs : List A) (n : ℕ) → length xs ≤ n → nth xs n ≡ none
@@ -96,15 +96,6 @@ pub record Going (src : Source) (d : Procedure) (q : Place) (cs : Callers) (w w1
   pub place : (g : Prog) (f : ℕ) (p : Proc) → ProcIs src d q g f p → PlaceAt r g f p a
   pub done : (g : Prog) (f : ℕ) (p : Proc) → ProcIs src d q g f p → (starts : List ℕ) → get_or starts f 0 ≡ cs.from → get_or starts (f + 1) 0 ≡ cs.until →
       Upto g starts w (before g.shared g.procs f) → Upto g starts w1 (loc g f p a 0)
-
-pub going_first : (src : Source) (d : Procedure) (q : Place) (cs : Callers) (w : List ℕ) (t : Steps) → StepsOf src d t → Going src d q cs w w t q
-going_first src d q cs w t o = record {
-  a = 0;
-  walk = o.all;
-  from = λ g f p h. subst (StepsFrom src.bytes.now p 0) (sym o.first) h.from;
-  place = λ g f p h. h.place;
-  done = λ g f p h starts lo hi u. let e : before g.shared g.procs f ≡ loc g f p 0 0 = omega arith in subst (Upto g starts w) e u;
-}
 
 module _ {src : Source} {d : Procedure} {q : Place} {cs : Callers} {w w1 : List ℕ} {t : Steps} {r : Place} (k : Going src d q cs w w1 t r) where
   -- one place more, whatever stands there

@@ -15,7 +15,7 @@ use Rattle.expansion.specs.declared.source.Source.{Source}
 use Rattle.expansion.specs.Listing.{calls_in, calls_of, Adds, StepCalls, ProcCalls, InProcedure, ProcListed, CalleeListed}
 use Rattle.expansion.specs.Programs.{Known}
 use Rattle.expansion.proofs.Counting.{calls_proc}
-use Rattle.expansion.proofs.Collecting.{adds_none, adds_add}
+use Rattle.expansion.proofs.Collecting.{adds_add}
 use Rattle.expansion.proofs.Walking.{Walk, walk_last, walk_here, walk_next, here, first_place, proc_is}
 
 -- the calls of procedure e in procedures below f are listed
@@ -50,9 +50,6 @@ module _ {e : ℕ} {x y : Sites} {f : ℕ} {g : Prog} (v : Along e x y f g) {p :
 pub record Passing (src : Source) (e : ℕ) (x y : Sites) (t : Enumerate Procedures) : Type 0 where
   pub walk : Walk src.bytes.now src.header t
   pub it : (g : Prog) → Known src g → Along e x y (enumerate_count t) g
-
-pub passing_first : (src : Source) (e : ℕ) (x : Sites) {t : Enumerate Procedures} → Walk src.bytes.now src.header t → enumerate_count t ≡ 0 → Passing src e x x t
-passing_first src e x k c = record { walk = k; it = λ g o. subst (λ n. Along e x x n g) (sym c) (record { few = omega arith; adds = adds_none x (λ n m. omega (arith, m.early)) }) }
 
 module _ {src : Source} {e : ℕ} {x y : Sites} {t : Enumerate Procedures} (v : Passing src e x y t) (u : Enumerate Procedures) where
   pub passing_last : enumerate_steps GivesProcedure t None u → CalleeListed src e x y
