@@ -54,6 +54,13 @@ pub struct Place {
     pub shared: u32,
 }
 
+// A procedure that is written: its program, and its call places.
+#[derive(Clone, Copy)]
+pub struct Body<'b> {
+    pub source: Source<'b>,
+    pub callers: Callers,
+}
+
 impl Place {
     // The place after this one.
     pub fn next(self) -> Place
@@ -85,23 +92,17 @@ pub fn write_node(words: &mut [u32], n: usize, node: Node)
 }
 
 // What the node of `place` with these values does, where `step` stands, or none behind the last step.
-fn action_of(
-    source: Source,
-    step: Option<Step>,
-    place: Place,
-    callers: Callers,
-    values: u32,
-) -> Action
-    requires { (g : Prog) × (f : ℕ) × (p : Proc) × (a : ℕ) × PlaceIs source step place g f p a × (values < 2 ^ (g.shared + p.own)) }
-    ensures { NodeIs source.entry step place callers values (record { action = result; base = place.base }) }
+fn action_of(body: Body, step: Option<Step>, place: Place, values: u32) -> Action
+    requires { (g : Prog) × (f : ℕ) × (p : Proc) × (a : ℕ) × PlaceIs body.source step place g f p a × (values < 2 ^ (g.shared + p.own)) }
+    ensures { NodeIs body.entry.source step place body.entry.callers values (record { action = result; base = place.base }) }
 {
     let Some(found) = step else {
-        return Action::Return(callers);
+        return Action::Return(body.callers);
     };
     let next = place.first + place.width;
     match found {
         Step::Set { var, expr } => {
-            let yes = evaluate(source.bytes, expr.0, values).holds;
+            let yes = evaluate(body.source.bytes, expr.0, values).holds;
             Action::flow_to(next + put_bit(values, u32::from(var.0), yes))
         }
         Step::Open(var) => Action::Flow {
@@ -113,7 +114,7 @@ fn action_of(
             expr,
         } => {
             let there = place.base + u32::from(target.0) * place.width;
-            if evaluate(source.bytes, expr.0, values).holds {
+            if evaluate(body.source.bytes, expr.0, values).holds {
                 Action::flow_to(there + values)
             } else {
                 Action::flow_to(next + values)
@@ -122,27 +123,21 @@ fn action_of(
         Step::Call(callee) => {
             let waiting = next + (values - values % place.shared);
             Action::Call {
-                callee: source.bases[usize::from(callee.0)],
+                callee: body.source.bases[usize::from(callee.0)],
                 waiting,
             }
         }
-        Step::Return => Action::Return(callers),
+        Step::Return => Action::Return(body.callers),
     }
 }
 
 // The node of `place` with these values, where `step` stands, or none behind the last step.
-pub fn node_words(
-    source: Source,
-    step: Option<Step>,
-    place: Place,
-    callers: Callers,
-    values: u32,
-) -> Node
-    requires { (g : Prog) × (f : ℕ) × (p : Proc) × (a : ℕ) × PlaceIs source step place g f p a × (values < 2 ^ (g.shared + p.own)) }
-    ensures { NodeIs source.entry step place callers values result }
+pub fn node_words(body: Body, step: Option<Step>, place: Place, values: u32) -> Node
+    requires { (g : Prog) × (f : ℕ) × (p : Proc) × (a : ℕ) × PlaceIs body.source step place g f p a × (values < 2 ^ (g.shared + p.own)) }
+    ensures { NodeIs body.entry.source step place body.entry.callers values result }
 {
     Node {
-        action: action_of(source, step, place, callers, values),
+        action: action_of(body, step, place, values),
         base: place.base,
     }
 }

@@ -4,7 +4,7 @@ ghost use Rattle.program.specs.Program.{Prog};
 ghost use Rattle.program.specs.Table.{total};
 ghost use Rattle.expansion.specs.Programs.{Headed, Based, Known, Expanded};
 
-use crate::nodes::Callers;
+use crate::nodes::{Body, Callers};
 use crate::procedures::expand_procedure;
 use crate::source::Source;
 use program::programs::Header;
@@ -33,6 +33,6 @@ pub fn expand(source: Source, starts: &[u32], words: &mut [u32])
             from: starts[f],
             until: starts[f + 1],
         };
-        expand_procedure(source, procedure, place, callers, words);
+        expand_procedure(Body { source, callers }, procedure, place, words);
     }
 }

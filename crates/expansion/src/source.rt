@@ -7,7 +7,8 @@ use program::procedures::Procedure;
 use program::programs::Header;
 use program::walks::Steps;
 
-// A program's bytes, what is known of it, and the node where each procedure begins.
+// A program's bytes, what is known of it, and the node where each procedure begins. That the bytes are that program is
+// asked by the functions that need it: as a field it would be asked of those too that write one procedure or node.
 #[derive(Clone, Copy)]
 pub struct Source<'b> {
     pub bytes: &'b [u8],

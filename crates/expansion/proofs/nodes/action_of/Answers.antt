@@ -75,8 +75,8 @@ returns-else-evaluate c = λ g f p a h l.
 pub overflow_add-waiting : goal.overflow_add-waiting
 overflow_add-waiting c = omega (arith, next_small c.requires.4, c.requires.5, wide c.requires.4)
 
-pub bounds-source-from : goal.bounds-source-from
-bounds-source-from c = rw c.from-in-Call.ensures (call_in (at_step _ (c.in-Some.is ∙ ap Some c.in-Call.is) c.requires.4))
+pub bounds-body-from : goal.bounds-body-from
+bounds-body-from c = rw c.from-in-Call.ensures (call_in (at_step _ (c.in-Some.is ∙ ap Some c.in-Call.is) c.requires.4))
 
 pub returns-in-Call : goal.returns-in-Call
 returns-in-Call c = λ g f p a h l. rw c.from-in-Call.ensures (call_codes (at_step _ (c.in-Some.is ∙ ap Some c.in-Call.is) h) _ _)

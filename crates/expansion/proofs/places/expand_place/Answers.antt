@@ -15,4 +15,4 @@ loop-values-preserved c = place_more _ _ _ _ _ _ _ _ _ c.loop-values-test.true c
 pub returns : goal.returns
 returns c =
     let e : c.loop-values.values ≡ c.args.place.width = omega arith in
-    subst (PlaceDone c.args.source c.args.step c.args.place c.args.callers c.args.words.now c.loop-values.words) e c.loop-values.invariant
+    subst (PlaceDone c.args.body.source c.args.step c.args.place c.args.body.callers c.args.words.now c.loop-values.words) e c.loop-values.invariant
