@@ -7,6 +7,7 @@ use crate::kinds::ExpressionKind;
 use crate::refusals::{Reason, Refusal};
 
 // Where the expression at `at` ends, over variables below `vars`.
+#[tactic(auto, using(crate::proofs::ReadingExpr::no_var, crate::proofs::ReadingExpr::is_not, crate::proofs::ReadingExpr::no_and, crate::proofs::ReadingExpr::is_and))]
 pub fn read_expression(bytes: &[u8], at: usize, vars: usize) -> Result<usize, Refusal>
     ensures { ReadExpr vars bytes.now at result }
 {
@@ -24,7 +25,7 @@ pub fn read_expression(bytes: &[u8], at: usize, vars: usize) -> Result<usize, Re
     }
 }
 
-// What an expression says, and where it ends.
+// What an expression says, and where it ends: both are always there, so this is no Option.
 #[derive(Clone, Copy)]
 pub struct Valued {
     pub holds: bool,

@@ -39,11 +39,13 @@ pub fn table_size(shared: u8, own: u8, steps: u8) -> usize
 }
 
 // Where `count` steps from `at` on end.
+#[tactic(auto, using(crate::proofs::ReadingProc::steps_more))]
 fn read_steps(bytes: &[u8], at: usize, count: u8, scope: Scope) -> Result<usize, Refusal>
     requires { at ≤ length bytes.now }
     ensures { ReadSteps scope bytes.now count at result }
 {
     let mut end = at;
+    // a `try_fold` would be the same `?` in a closure
     for _i in 0..count {
         let found = read_step(bytes, end, scope)?;
         end = found.end;
