@@ -6,15 +6,16 @@ use Rattle.program.specs.declared.steps.Found.{Found}
 use Rattle.program.specs.declared.steps.Scope.{Scope}
 use Rattle.program.specs.declared.procedures.Procedure.{Procedure}
 use Rattle.program.specs.declared.walks.Steps.{Steps}
-use Rattle.program.specs.Program.{nth, Proc, Prog}
-use Rattle.program.specs.Rows.{row_i, rows, OkI, OkP, Every}
-use Rattle.program.specs.Reading.{InScope}
+use Rattle.program.specs.Program.{nth, I, Proc, Prog}
+use Rattle.program.specs.Rows.{row_i, rows, OkI}
+use Rattle.program.specs.Reading.{Nothing, InScope}
 use Rattle.program.specs.Table.{before}
 use Rattle.program.specs.Numbers.{loc}
 use Rattle.program.specs.Walks.{GivesStep}
 use Rattle.program.proofs.Prefix.{prefix_i}
 use Rattle.program.proofs.Turns as turns
-use Rattle.program.proofs.Walk.{split, every_nth}
+use Rattle.program.proofs.Walk.{split}
+use Rattle.program.proofs.Kept.{ok_step}
 use Rattle.expansion.specs.declared.nodes.Callers.{Callers}
 use Rattle.expansion.specs.declared.nodes.Place.{Place}
 use Rattle.expansion.specs.declared.source.Source.{Source}
@@ -54,11 +55,15 @@ module _ {src : Source} {d : Procedure} {q : Place} {g : Prog} {f : ℕ} {p : Pr
 
   -- the next step: it was read, or there is none behind the last
   module _ {a : ℕ} {t : Steps} (at : StepsAt src d a t) (from : StepsFrom src.bytes.now p a t.at) where
-    scoped : Every (InScope t.scope) p.steps
-    scoped =
+    scope_ok : (i : I) → nth p.steps a ≡ some i → InScope t.scope i
+    scope_ok i e =
         let vars : t.scope.vars ≡ g.shared + p.own = omega (arith, at.vars, h.shared, h.own) in
-        let fine = (every_nth (OkP g.shared (length g.procs)) g.procs f p h.good.procs h.there).steps in
-        subst (λ z. Every (OkI z t.scope.last.0 t.scope.procs) p.steps) (sym vars) (subst (λ z. Every (OkI (g.shared + p.own) z t.scope.procs) p.steps) (sym (at.last ∙ h.steps)) (subst (λ z. Every (OkI (g.shared + p.own) (length p.steps) z) p.steps) (sym (at.procs ∙ h.procs)) fine))
+        subst (λ z. OkI z t.scope.last.0 t.scope.procs i) (sym vars) (subst (λ z. OkI (g.shared + p.own) z t.scope.procs i) (sym (at.last ∙ h.steps)) (subst (λ z. OkI (g.shared + p.own) (length p.steps) z i) (sym (at.procs ∙ h.procs)) (ok_step h.good f p a i h.there e)))
+
+    step_some : a < d.steps → Nothing row_i (InScope t.scope) src.bytes.now t.at → ⊥
+    step_some l n =
+        let k = split p.steps a (omega (arith, h.steps)) in
+        n k.0 (rows row_i (drop (suc a) p.steps) ++ from.0) (from.1 ∙ ap (λ z. rows row_i z ++ from.0) k.2 ∙ append_assoc (row_i k.0) (rows row_i (drop (suc a) p.steps)) from.0) (scope_ok k.0 k.1)
 
     pub step_next : (u : Steps) (r : Found) → GivesStep t (Some r) u → (a < length p.steps) × StepIs src.bytes.now (Some r.step) p a × StepsFrom src.bytes.now p (a + 1) u.at
     step_next u r e =
@@ -70,7 +75,7 @@ module _ {src : Source} {d : Procedure} {q : Place} {g : Prog} {f : ℕ} {p : Pr
         (omega (arith, h.steps, n.0), (m.0.it, r.end, k.1 ∙ ap some (sym x.0), m.1), subst (StepsFrom src.bytes.now p (a + 1)) (sym n.2.at) y)
 
     pub step_last : (u : Steps) → GivesStep t None u → a ≡ length p.steps
-    step_last u e = turns.steps_all at.walk p.steps from.0 u e from.1 scoped (sym h.steps) ∙ h.steps
+    step_last u e = turns.step_last at.walk u e step_some ∙ h.steps
 
 -- the walk after a step
 pub steps_next : {src : Source} {d : Procedure} {a : ℕ} {t : Steps} → StepsAt src d a t → (u : Steps) (r : Found) → GivesStep t (Some r) u → StepsAt src d (a + 1) u
