@@ -14,8 +14,8 @@ use Rattle.program.specs.Walks.{GivesStep}
 use Rattle.expansion.specs.declared.nodes.Place.{Place}
 use Rattle.expansion.specs.declared.sites.Sites.{Sites}
 use Rattle.expansion.specs.declared.source.Source.{Source}
-use Rattle.expansion.specs.Nodes.{StepIs}
-use Rattle.expansion.specs.Procs.{StepsFrom, StepsAt, PlaceAt, ProcIs}
+use Rattle.expansion.specs.Nodes.{StepIs, PlaceAt}
+use Rattle.expansion.specs.Procs.{StepsFrom, StepsAt, ProcIs}
 use Rattle.expansion.specs.Listing.{calls_in, Adds, StepCalls, IsCall, Noted, ProcListed}
 use Rattle.expansion.proofs.Placed.{next_small}
 use Rattle.expansion.proofs.Stepping.{after, place_is, place_next, step_next, step_last, steps_next}

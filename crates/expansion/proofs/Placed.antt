@@ -44,28 +44,28 @@ module _ {src : Source} {d : Option Step} {q : Place} {g : Prog} {f : ℕ} {p : 
   K = 2 ^ g.shared
 
   pub own_few : p.own ≤ 6
-  own_few = (every_nth (OkP g.shared (length g.procs)) g.procs f p h.good.procs h.there).few
+  own_few = (every_nth (OkP g.shared (length g.procs)) g.procs f p h.its.good.procs h.its.there).few
 
   pub short : length p.steps ≤ 255
-  short = (every_nth (OkP g.shared (length g.procs)) g.procs f p h.good.procs h.there).short
+  short = (every_nth (OkP g.shared (length g.procs)) g.procs f p h.its.good.procs h.its.there).short
 
   pub wide : W ≤ 4096
-  wide = pow_mono {i = g.shared + p.own} {j = 12} (omega (arith, own_few, h.few))
+  wide = pow_mono {i = g.shared + p.own} {j = 12} (omega (arith, own_few, h.its.few))
 
   -- a place of the procedure ends in the table
   pub place_end : (b : ℕ) → b ≤ length p.steps → before g.shared g.procs f + (b * W + W) ≤ 67108864
   place_end b l =
-      let r = before_lt g.shared g.procs f p (b * W + (W - 1)) h.there (digits_lt {q = b} {m = length p.steps + 1} {r = W - 1} {c = W} (omega arith) (omega (arith, pow_pos (g.shared + p.own)))) in
-      omega (arith, r, h.small, pow_pos (g.shared + p.own))
+      let r = before_lt g.shared g.procs f p (b * W + (W - 1)) h.its.there (digits_lt {q = b} {m = length p.steps + 1} {r = W - 1} {c = W} (omega arith) (omega (arith, pow_pos (g.shared + p.own)))) in
+      omega (arith, r, h.its.small, pow_pos (g.shared + p.own))
 
   pub next_is : (u : ℕ) → q.first + q.width + u ≡ loc g f p (a + 1) u
-  next_is u = omega (arith, h.first, h.width, add-mul a 1 W, one-mul W)
+  next_is u = omega (arith, h.at.first, h.at.width, add-mul a 1 W, one-mul W)
 
   pub next_small : q.first + q.width ≤ 67108864
-  next_small = omega (arith, h.first, h.width, place_end a h.place)
+  next_small = omega (arith, h.at.first, h.at.width, place_end a h.place)
 
   small_w : g.shared + p.own ≤ 12
-  small_w = omega (arith, own_few, h.few)
+  small_w = omega (arith, own_few, h.its.few)
 
 -- the number of values that a bit was changed in
 put_num : (w v x : ℕ) (b : Bool) (u : ℕ) → (u < 2 ^ w) × (bits w u ≡ put (bits w v) x b) → u ≡ num (put (bits w v) x b)
@@ -89,7 +89,7 @@ module _ {src : Source} {x : VarNo} {at : ExprAt} {q : Place} {g : Prog} {f : �
   set_is =
       let m = h.step.3 in
       let n : nth p.steps a ≡ some (set x.0 m.0) = h.step.2 ∙ ap some m.1 in
-      let o = ok_step h.good f p a (set x.0 m.0) h.there n in
+      let o = ok_step h.its.good f p a (set x.0 m.0) h.its.there n in
       (m.0, h.step.1, n, m.2, o.0, o.1)
 
   pub set_var : x.0 < 32
@@ -114,7 +114,7 @@ module _ {src : Source} {x : VarNo} {at : ExprAt} {q : Place} {g : Prog} {f : �
 -- an open
 module _ {src : Source} {x : VarNo} {q : Place} {g : Prog} {f : ℕ} {p : Proc} {a : ℕ} (h : PlaceIs src (Some (Open x)) q g f p a) where
   open_is : (nth p.steps a ≡ some (open1 x.0)) × (x.0 < g.shared + p.own)
-  open_is = let n = h.step.2 ∙ ap some h.step.3 in (n, ok_step h.good f p a (open1 x.0) h.there n)
+  open_is = let n = h.step.2 ∙ ap some h.step.3 in (n, ok_step h.its.good f p a (open1 x.0) h.its.there n)
 
   pub open_var : x.0 < 32
   open_var = omega (arith, open_is.1, small_w h)
@@ -137,14 +137,14 @@ module _ {src : Source} {t : PlaceNo} {at : ExprAt} {q : Place} {g : Prog} {f : 
   go_is =
       let m = h.step.3 in
       let n : nth p.steps a ≡ some (go m.0 t.0) = h.step.2 ∙ ap some m.1 in
-      let o = ok_step h.good f p a (go m.0 t.0) h.there n in
+      let o = ok_step h.its.good f p a (go m.0 t.0) h.its.there n in
       (m.0, h.step.1, n, m.2, o.0, o.1)
 
   pub go_has : Has 32 src.bytes.now at.0
   go_has = let m = go_is in (m.1, record { it = m.0; stands = m.3; fine = more_E (g.shared + p.own) 32 m.0 (omega (arith, small_w h)) m.5 })
 
   pub go_there : q.base + (t.0 * q.width + q.width) ≤ 67108864
-  go_there = rw (h.base, h.width) (place_end h t.0 go_is.4)
+  go_there = rw (h.at.base, h.at.width) (place_end h t.0 go_is.4)
 
   pub go_codes : (cs : Callers) (v : ℕ) → (r : Valued) → Evals src.bytes.now at.0 v r → (y : ℕ) → (r.holds ≡ true → y ≡ q.base + t.0 * q.width + v) → (r.holds ≡ false → y ≡ q.first + q.width + v) →
       Codes (2 ^ g.shared) (loc g f p a v) q.base cs.from cs.until (record { action = Flow y y; base = q.base }) (move_at g f p a v (nth p.steps a))
@@ -156,21 +156,21 @@ module _ {src : Source} {t : PlaceNo} {at : ExprAt} {q : Place} {g : Prog} {f : 
       rw m.2 (λ i. record { action = Flow (e i) (e i); base = q.base })
     where
       to : (z : Bool) → r.holds ≡ z → y ≡ loc g f p (pick z t.0 (a + 1)) v
-      to true z = yes1 z ∙ omega (arith, h.base, ap (λ w. t.0 * w) h.width)
+      to true z = yes1 z ∙ omega (arith, h.at.base, ap (λ w. t.0 * w) h.at.width)
       to false z = no1 z ∙ next_is h v
 
 -- a call
 module _ {src : Source} {d : ProcNo} {q : Place} {g : Prog} {f : ℕ} {p : Proc} {a : ℕ} (h : PlaceIs src (Some (Call d)) q g f p a) where
   call_is : (nth p.steps a ≡ some (call d.0)) × (d.0 < length g.procs)
-  call_is = let n = h.step.2 ∙ ap some h.step.3 in (n, ok_step h.good f p a (call d.0) h.there n)
+  call_is = let n = h.step.2 ∙ ap some h.step.3 in (n, ok_step h.its.good f p a (call d.0) h.its.there n)
 
   pub call_in : d.0 < length src.bases.now
-  call_in = (h.begins d.0 call_is.1).0
+  call_in = (h.its.begins d.0 call_is.1).0
 
   pub call_codes : (cs : Callers) (v : ℕ) → Codes (2 ^ g.shared) (loc g f p a v) q.base cs.from cs.until (record { action = Calls (get_or src.bases.now d.0 0) (q.first + q.width + (v - v % q.shared)); base = q.base }) (move_at g f p a v (nth p.steps a))
   call_codes cs v =
       let K = 2 ^ g.shared in
-      let high : v - v % q.shared ≡ v / K * K = ap (λ z. v - v % z) h.shared ∙ omega (arith, div-add-mod' v K) in
+      let high : v - v % q.shared ≡ v / K * K = ap (λ z. v - v % z) h.at.shared ∙ omega (arith, div-add-mod' v K) in
       let e = next_is h (v - v % q.shared) ∙ ap (loc g f p (a + 1)) high in
-      let c = (h.begins d.0 call_is.1).1 in
+      let c = (h.its.begins d.0 call_is.1).1 in
       rw call_is.0 (get_or src.bases.now d.0 0, (λ i. record { action = Calls (get_or src.bases.now d.0 0) (e i); base = q.base }), omega (arith, c, loc_mod g f p a v))

@@ -20,8 +20,8 @@ use Rattle.expansion.specs.declared.nodes.Callers.{Callers}
 use Rattle.expansion.specs.declared.nodes.Place.{Place}
 use Rattle.expansion.specs.declared.source.Source.{Source}
 use Rattle.expansion.specs.Words.{Upto}
-use Rattle.expansion.specs.Nodes.{StepIs, PlaceIs, PlaceDone}
-use Rattle.expansion.specs.Procs.{StepsFrom, StepsAt, PlaceAt, ProcIs, ProcDone}
+use Rattle.expansion.specs.Nodes.{StepIs, PlaceAt, PlaceIs, PlaceDone}
+use Rattle.expansion.specs.Procs.{StepsFrom, StepsAt, ProcIs, ProcDone}
 
 -- past the last step
 past : {A : Type 0} (xs : List A) (n : ℕ) → length xs ≤ n → nth xs n ≡ none
@@ -36,19 +36,7 @@ after q = record q { first = q.first + q.width }
 module _ {src : Source} {d : Procedure} {q : Place} {g : Prog} {f : ℕ} {p : Proc} (h : ProcIs src d q g f p) where
   -- a place of the procedure
   pub place_is : (e : Option Step) (r : Place) (a : ℕ) → PlaceAt r g f p a → a ≤ length p.steps → StepIs src.bytes.now e p a → PlaceIs src e r g f p a
-  place_is e r a l k m = record {
-    good = h.good;
-    few = h.few;
-    small = h.small;
-    there = h.there;
-    place = k;
-    step = m;
-    base = l.base;
-    width = l.width;
-    shared = l.shared;
-    first = l.first;
-    begins = h.begins;
-  }
+  place_is e r a l k m = record { its = h.its; place = k; step = m; at = l }
 
   pub place_next : (r : Place) (a : ℕ) → PlaceAt r g f p a → PlaceAt (after r) g f p (a + 1)
   place_next r a l = record { base = l.base; width = l.width; shared = l.shared; first = omega (arith, l.first, l.width, add-mul a 1 (2 ^ (g.shared + p.own)), one-mul (2 ^ (g.shared + p.own))) }
@@ -58,7 +46,7 @@ module _ {src : Source} {d : Procedure} {q : Place} {g : Prog} {f : ℕ} {p : Pr
     scope_ok : (i : I) → nth p.steps a ≡ some i → InScope t.scope i
     scope_ok i e =
         let vars : t.scope.vars ≡ g.shared + p.own = omega (arith, at.vars, h.shared, h.own) in
-        subst (λ z. OkI z t.scope.last.0 t.scope.procs i) (sym vars) (subst (λ z. OkI (g.shared + p.own) z t.scope.procs i) (sym (at.last ∙ h.steps)) (subst (λ z. OkI (g.shared + p.own) (length p.steps) z i) (sym (at.procs ∙ h.procs)) (ok_step h.good f p a i h.there e)))
+        subst (λ z. OkI z t.scope.last.0 t.scope.procs i) (sym vars) (subst (λ z. OkI (g.shared + p.own) z t.scope.procs i) (sym (at.last ∙ h.steps)) (subst (λ z. OkI (g.shared + p.own) (length p.steps) z i) (sym (at.procs ∙ h.procs)) (ok_step h.its.good f p a i h.its.there e)))
 
     step_some : a < d.steps → Nothing row_i (InScope t.scope) src.bytes.now t.at → ⊥
     step_some l n =

@@ -93,17 +93,13 @@ proc_is x f d k l y =
     let r = k.headed in
     let b = (k.begins f (omega (arith, l, r.header.procs))).1 in
     record {
-      good = good r.reads;
-      few = r.reads.few;
-      small = small r;
-      there = y.there;
+      its = record { good = good r.reads; few = r.reads.few; small = small r; there = y.there; begins = k.begins };
       own = y.own;
       steps = y.steps;
       from = y.from;
       shared = r.header.shared;
       procs = r.header.procs;
       place = record { base = b; width = λ i. 2 ^ (r.header.shared i + y.own i); shared = ap (λ n. 2 ^ n) r.header.shared; first = b ∙ omega arith };
-      begins = k.begins;
     }
 
 -- the procedures before the walk are listed, and the next one begins at node b

@@ -33,10 +33,10 @@ upto_more {g} starts {w} {w'} {n} {f} {p} {a} {v} {d} at r c u m f1 p1 a1 v1 l h
 
 module _ {src : Source} {d : Option Step} {q : Place} {g : Prog} {f : ℕ} {p : Proc} {a : ℕ} (h : PlaceIs src d q g f p a) (v : ℕ) (l : v < q.width) where
   pub value_small : v < 2 ^ (g.shared + p.own)
-  value_small = omega (arith, h.width)
+  value_small = omega (arith, h.at.width)
 
   pub place_loc : Loc g (q.first + v) f p a v
-  place_loc = record { there = h.there; place = h.place; small = value_small; is = omega (arith, h.first) }
+  place_loc = record { there = h.its.there; place = h.place; small = value_small; is = omega (arith, h.at.first) }
 
   pub node_lt : q.first + v < total g.shared g.procs
   node_lt = loc_lt place_loc
@@ -49,9 +49,9 @@ place_more src d q k w w1 w2 v r l is wrote done g f p a h starts lo hi u =
     let here : Upto g starts w1 (q.first + v) = subst (Upto g starts w1) (sym at.is) (done g f p a h starts lo hi u) in
     let B = before g.shared g.procs f in
     let M = move_at g f p a v (nth p.steps a) in
-    let c1 = subst (λ b. Codes (2 ^ g.shared) (loc g f p a v) b k.from k.until r M) h.base c in
+    let c1 = subst (λ b. Codes (2 ^ g.shared) (loc g f p a v) b k.from k.until r M) h.at.base c in
     let c2 = subst (λ z. Codes (2 ^ g.shared) (loc g f p a v) B z k.until r M) (sym lo) c1 in
     let c3 = subst (λ z. Codes (2 ^ g.shared) (loc g f p a v) B (get_or starts f 0) z r M) (sym hi) c2 in
     let words = upto_more starts at wrote (subst (λ z. Codes (2 ^ g.shared) z B (get_or starts f 0) (get_or starts (f + 1) 0) r M) (sym at.is) c3) here in
-    let next : q.first + v + 1 ≡ loc g f p a (v + 1) = omega (arith, h.first) in
+    let next : q.first + v + 1 ≡ loc g f p a (v + 1) = omega (arith, h.at.first) in
     subst (Upto g starts w2) next words

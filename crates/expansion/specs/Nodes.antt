@@ -18,19 +18,27 @@ abbrev pub StepIs : List ℕ → Option Step → Proc → ℕ → Type 0
 StepIs s None p a = nth p.steps a ≡ none
 StepIs s (Some d) p a = (i : I) × (end : ℕ) × (nth p.steps a ≡ some i) × Means s end d i
 
--- place a of procedure f, which is p, with a step d that was read there
-pub record PlaceIs (x : Source) (d : Option Step) (q : Place) (g : Prog) (f : ℕ) (p : Proc) (a : ℕ) : Type 0 where
+-- procedure f of g is p, and the list says where each procedure begins
+pub record Numbered (x : Source) (g : Prog) (f : ℕ) (p : Proc) : Type 0 where
   pub good : Good g
   pub few : g.shared ≤ 6
   pub small : total g.shared g.procs ≤ 67108864
   pub there : nth g.procs f ≡ some p
-  pub place : a ≤ length p.steps
-  pub step : StepIs x.bytes.now d p a
+  pub begins : (e : ℕ) → e < length g.procs → (e < length x.bases.now) × (slice_index x.bases.now e ≡ before g.shared g.procs e)
+
+-- q is place a of procedure f, which is p, in the table
+pub record PlaceAt (q : Place) (g : Prog) (f : ℕ) (p : Proc) (a : ℕ) : Type 0 where
   pub base : q.base ≡ before g.shared g.procs f
   pub width : q.width ≡ 2 ^ (g.shared + p.own)
   pub shared : q.shared ≡ 2 ^ g.shared
   pub first : q.first ≡ loc g f p a 0
-  pub begins : (e : ℕ) → e < length g.procs → (e < length x.bases.now) × (slice_index x.bases.now e ≡ before g.shared g.procs e)
+
+-- q is place a of procedure f, which is p, with a step d that was read there
+pub record PlaceIs (x : Source) (d : Option Step) (q : Place) (g : Prog) (f : ℕ) (p : Proc) (a : ℕ) : Type 0 where
+  pub its : Numbered x g f p
+  pub place : a ≤ length p.steps
+  pub step : StepIs x.bytes.now d p a
+  pub at : PlaceAt q g f p a
 
 -- what a node does, for values v, in a procedure with these callers
 abbrev pub NodeIs : Source → Option Step → Place → Callers → ℕ → Node → Type 0

@@ -4,7 +4,7 @@ use Rattle.expansion.proofs.Written.{node_lt, place_more}
 use Rattle.expansion.proofs.places.expand_place.Goals as goal
 
 pub overflow_add-place : goal.overflow_add-place
-overflow_add-place c = let h = c.requires in omega (arith, node_lt h.4 _ c.loop-values-test.true, h.4.small)
+overflow_add-place c = let h = c.requires in omega (arith, node_lt h.4 _ c.loop-values-test.true, h.4.its.small)
 
 pub write_node-requires : goal.write_node-requires
 write_node-requires c = let h = c.requires in omega (arith, node_lt h.4 _ c.loop-values-test.true, h.5)
