@@ -1,5 +1,5 @@
 -- What is tested part by part is so of the whole, and what is not so of a part is not so of the whole.
-use Rattle.std.proofs.Common.{◌≡◌, ℕ, ◌+◌, ◌≤◌, List, [], ◌∷◌, map, length, vec_items, vec_len, Result, sym, ap, ◌∙◌, subst, arith}
+use Rattle.std.proofs.Common.{◌≡◌, ℕ, ◌+◌, ◌≤◌, List, [], ◌∷◌, length, vec_items, vec_len, Result, sym, ◌∙◌, subst, arith}
 use Rattle.std.proofs.lemmas.Result.{MatchResult-weaker}
 use Rattle.std.proofs.lemmas.List.{length-map}
 use Rattle.program.specs.Rows.{OkI, OkP, Every}
@@ -35,34 +35,34 @@ module _ (k m : ℕ) (p : Procedure) {ss : List Statement} {n : ℕ} (is : ss �
   same_scope : n ≡ length (meaning_p p).steps
   same_scope = long ∙ body_long p
 
-  all_fit : Every (OkI (k + p.own) n m) (steps_from 0 ss) → OkP k m (meaning_p p)
-  all_fit h = record {
+  all_fit : {m' : ℕ} → m' ≡ m → Every (OkI (k + p.own) n m') (steps_from 0 ss) → OkP k m (meaning_p p)
+  all_fit same h = record {
     few = few;
     short = omega (arith, same_scope);
-    steps = subst (λ x. Every (OkI (k + p.own) x m) (meaning_p p).steps) same_scope (subst (λ xs. Every (OkI (k + p.own) n m) (steps_from 0 xs)) is h);
+    steps = subst (λ x. Every (OkI (k + p.own) x m) (meaning_p p).steps) same_scope (subst (λ xs. Every (OkI (k + p.own) n m) (steps_from 0 xs)) is (subst (λ x. Every (OkI (k + p.own) n x) (steps_from 0 ss)) same h));
   }
 
-  each_fits : OkP k m (meaning_p p) → Every (OkI (k + p.own) n m) (steps_from 0 ss)
-  each_fits ok = subst (λ xs. Every (OkI (k + p.own) n m) (steps_from 0 xs)) (sym is) (subst (λ x. Every (OkI (k + p.own) x m) (meaning_p p).steps) (sym same_scope) ok.steps)
+  each_fits : {m' : ℕ} → m' ≡ m → OkP k m (meaning_p p) → Every (OkI (k + p.own) n m') (steps_from 0 ss)
+  each_fits same ok = subst (λ x. Every (OkI (k + p.own) n x) (steps_from 0 ss)) (sym same) (subst (λ xs. Every (OkI (k + p.own) n m) (steps_from 0 xs)) (sym is) (subst (λ x. Every (OkI (k + p.own) x m) (meaning_p p).steps) (sym same_scope) ok.steps))
 
-  pub procedure_fits : (r : Result (Unit {0}) Fault) → Tells (Every (OkI (k + p.own) n m) (steps_from 0 ss)) r → Tells (OkP k m (meaning_p p)) r
-  procedure_fits r h = MatchResult-weaker r h (λ _ k. all_fit k) (λ _ bad ok. bad (each_fits ok))
+  pub procedure_fits : {m' : ℕ} → m' ≡ m → (r : Result (Unit {0}) Fault) → Tells (Every (OkI (k + p.own) n m') (steps_from 0 ss)) r → Tells (OkP k m (meaning_p p)) r
+  procedure_fits same r h = MatchResult-weaker r h (λ _ k. all_fit same k) (λ _ bad ok. bad (each_fits same ok))
 
 -- a tree: its shared variables, how many procedures it has, and these
-module _ (t : Tree) {ps : List Procedure} (is : ps ≡ vec_items t.procedures) (few : t.shared ≤ 6) (some : 1 ≤ vec_len t.procedures) (most : vec_len t.procedures ≤ 64) where
-  same_count : length ps ≡ length (meaning t).procs
-  same_count = ap length is ∙ sym (length-map (vec_items t.procedures) meaning_p)
+module _ (t : Tree) (few : t.shared ≤ 6) (some : 1 ≤ vec_len t.procedures) (most : vec_len t.procedures ≤ 64) where
+  same_count : length (vec_items t.procedures) ≡ length (meaning t).procs
+  same_count = sym (length-map (vec_items t.procedures) meaning_p)
 
-  all_kept : Every (OkP t.shared (length ps)) (map meaning_p ps) → Kept (meaning t)
+  all_kept : Every (OkP t.shared (length (vec_items t.procedures))) (meaning t).procs → Kept (meaning t)
   all_kept h = record {
     few = few;
     some = omega (arith, tree_long t);
     most = omega (arith, tree_long t);
-    procs = subst (λ n. Every (OkP t.shared n) (meaning t).procs) same_count (subst (λ qs. Every (OkP t.shared (length ps)) (map meaning_p qs)) is h);
+    procs = subst (λ n. Every (OkP t.shared n) (meaning t).procs) same_count h;
   }
 
-  each_kept : Kept (meaning t) → Every (OkP t.shared (length ps)) (map meaning_p ps)
-  each_kept k = subst (λ qs. Every (OkP t.shared (length ps)) (map meaning_p qs)) (sym is) (subst (λ n. Every (OkP t.shared n) (meaning t).procs) (sym same_count) k.procs)
+  each_kept : Kept (meaning t) → Every (OkP t.shared (length (vec_items t.procedures))) (meaning t).procs
+  each_kept k = subst (λ n. Every (OkP t.shared n) (meaning t).procs) (sym same_count) k.procs
 
-  pub tree_fits : (r : Result (Unit {0}) Fault) → Tells (Every (OkP t.shared (length ps)) (map meaning_p ps)) r → Tells (Kept (meaning t)) r
+  pub tree_fits : (r : Result (Unit {0}) Fault) → Tells (Every (OkP t.shared (length (vec_items t.procedures))) (meaning t).procs) r → Tells (Kept (meaning t)) r
   tree_fits r h = MatchResult-weaker r h (λ _ k. all_kept k) (λ _ bad k. bad (each_kept k))

@@ -1,4 +1,5 @@
-use Rattle.std.proofs.Common.{[], ◌∷◌, ◌++◌, ap, ◌∙◌, arith}
+use Rattle.std.proofs.Common.{[], ◌∷◌, ◌++◌, ap, ◌∙◌}
+use Rattle.std.proofs.lemmas.Bool.{leb-true, leb-false}
 use Rattle.std.proofs.lemmas.Result.{err_from_is_err_and}
 use Rattle.tree.proofs.Truth.{truth_tables}
 use Rattle.tree.proofs.Whole.{refused, no_memory, not_kept, too_long, kept_small, written}
@@ -10,11 +11,11 @@ returns-in_err-check_tree c =
     let t = c.args.tree.now in
     record { encoded = rw p.1 (refused t p.0 (not_kept t c.in_err-check_tree.ensures)); truth = truth_tables }
 
-pub returns-in_err-check_most : goal.returns-in_err-check_most
-returns-in_err-check_most c =
-    let p = err_from_is_err_and c.from_residual-in_err-check_most.result c.from_residual-in_err-check_most.ensures.1 in
+pub returns-in_err-check : goal.returns-in_err-check
+returns-in_err-check c =
+    let p = err_from_is_err_and c.from_residual-in_err-check.result c.from_residual-in_err-check.ensures.1 in
     let t = c.args.tree.now in
-    record { encoded = rw p.1 (refused t p.0 (too_long t c.tree_size-size.ensures (omega (arith, c.in_err-check_most.ensures)))); truth = truth_tables }
+    record { encoded = rw p.1 (refused t p.0 (too_long t c.tree_size-size.ensures (leb-false _ _ c.in_err-check.ensures))); truth = truth_tables }
 
 pub returns-in_err-bytes : goal.returns-in_err-bytes
 returns-in_err-bytes c =
@@ -39,6 +40,6 @@ returns c =
     let t = c.args.tree.now in
     let first = c.in_ok-push.ensures.items ∙ ap (λ x. x ++ t.shared ∷ []) c.in_ok-bytes.ensures.items in
     record {
-      encoded = written t c.in_ok-check_tree.ensures c.tree_size-size.ensures (omega (arith, c.in_ok-check_most.ensures)) c.deref.ensures.value first c.in_ok-write_procedures.ensures;
+      encoded = written t c.in_ok-check_tree.ensures c.tree_size-size.ensures (leb-true _ _ c.in_ok-check.ensures) c.deref.ensures.value first c.in_ok-write_procedures.ensures;
       truth = truth_tables;
     }
