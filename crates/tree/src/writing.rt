@@ -8,27 +8,28 @@ ghost use Rattle.tree.specs.Adds.{Adds};
 ghost use Rattle.tree.specs.Meaning.{or1, equal1, meaning_e, meaning_i, steps_from, meaning_p};
 
 use crate::programs::{Expr, Procedure, Statement};
+use program::kinds::{ExpressionKind, StepKind};
 use std::alloc::AllocError;
 
 // The first bytes of expressions.
-const YES: u8 = 0;
+const YES: u8 = ExpressionKind::Yes as u8;
 
-const VAR: u8 = 1;
+const VAR: u8 = ExpressionKind::Var as u8;
 
-const NOT: u8 = 2;
+const NOT: u8 = ExpressionKind::Not as u8;
 
-const AND: u8 = 3;
+const AND: u8 = ExpressionKind::And as u8;
 
 // The first bytes of steps.
-const SET: u8 = 0;
+const SET: u8 = StepKind::Set as u8;
 
-const OPEN: u8 = 1;
+const OPEN: u8 = StepKind::Open as u8;
 
-const GO: u8 = 2;
+const GO: u8 = StepKind::Go as u8;
 
-const CALL: u8 = 3;
+const CALL: u8 = StepKind::Call as u8;
 
-const RETURN: u8 = 4;
+const RETURN: u8 = StepKind::Return as u8;
 
 // Left and right.
 #[cycle(write_and_write_equal_write_expr_write_or)]
