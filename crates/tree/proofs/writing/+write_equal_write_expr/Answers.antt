@@ -2,34 +2,9 @@ use Rattle.std.proofs.Common.{[], ◌∷◌, vec_items, ap, arith}
 use Rattle.std.proofs.lemmas.Result.{IfOk-weaker}
 use Rattle.tree.specs.Meaning.{meaning_e}
 use Rattle.tree.proofs.Sizing.{size_e}
-use Rattle.tree.proofs.Operands.{some_bytes, and_operands, or_operands, equal_operands, differ_operands, differ_bytes, not_bytes, equal_parts}
+use Rattle.tree.proofs.Operands.{some_bytes, equal_operands, differ_operands, differ_bytes, not_bytes, equal_parts}
 use Rattle.tree.proofs.Appending.{adds, adds_both, adds_as}
-use Rattle.tree.proofs.writing.+write_and_write_equal_write_expr_write_or.Goals as goal
-
-pub write_and-write_expr-requires : goal.write_and-write_expr-requires
-write_and-write_expr-requires t c = (omega (arith, some_bytes (meaning_e c.args.right.now)), c.requires.0)
-
-pub write_and-write_expr-requires-2 : goal.write_and-write_expr-requires-2
-write_and-write_expr-requires-2 t c = (omega (arith, some_bytes (meaning_e c.args.left.now)), c.requires.1)
-
-pub write_and-returns : goal.write_and-returns
-write_and-returns t c =
-    let tag = adds (3 ∷ []) (vec_items c.args.out.now) c.in_ok-push.ensures.items in
-    let left = c.in_ok-write_expr.ensures in
-    IfOk-weaker c.write_expr-2.result _ _ (λ _ right. adds_both tag (adds_both left right)) c.write_expr-2.ensures
-
-pub write_or-write_expr-requires : goal.write_or-write_expr-requires
-write_or-write_expr-requires t c = (omega (arith, some_bytes (meaning_e c.args.right.now)), c.requires.0)
-
-pub write_or-write_expr-requires-2 : goal.write_or-write_expr-requires-2
-write_or-write_expr-requires-2 t c = (omega (arith, some_bytes (meaning_e c.args.left.now)), c.requires.1)
-
-pub write_or-returns : goal.write_or-returns
-write_or-returns t c =
-    let tags = adds (2 ∷ 3 ∷ 2 ∷ []) (vec_items c.args.out.now) c.in_ok-extend_from_slice.ensures.items in
-    let left = c.in_ok-write_expr.ensures in
-    let tag = adds (2 ∷ []) (vec_items c.write_expr.new.out) c.in_ok-push.ensures.items in
-    IfOk-weaker c.write_expr-2.result _ _ (λ _ right. adds_both tags (adds_both left (adds_both tag right))) c.write_expr-2.ensures
+use Rattle.tree.proofs.writing.+write_equal_write_expr.Goals as goal
 
 pub write_equal-write_expr-requires : goal.write_equal-write_expr-requires
 write_equal-write_expr-requires t c = (omega (arith, some_bytes (meaning_e c.args.right.now)), c.requires.0)
@@ -52,20 +27,6 @@ write_equal-returns t c =
     let tags' = adds (2 ∷ 3 ∷ 2 ∷ []) (vec_items c.write_expr-2.new.out) c.in_ok-extend_from_slice-2.ensures.items in
     let left' = c.in_ok-write_expr-3.ensures in
     IfOk-weaker c.write_expr-4.result _ _ (λ _ right'. adds_as (equal_parts c.args.left.now c.args.right.now) (adds_both tags (adds_both left (adds_both tag (adds_both right (adds_both tags' (adds_both left' right'))))))) c.write_expr-4.ensures
-
-pub write_expr-write_and-requires : goal.write_expr-write_and-requires
-write_expr-write_and-requires t c =
-    let o = and_operands 12 c.in-And.is c.requires in (
-      omega (arith, o.less, ap size_e c.deref-in-And.ensures, ap size_e c.deref-in-And-2.ensures),
-      (rw c.deref-in-And.ensures o.left, rw c.deref-in-And-2.ensures o.right),
-    )
-
-pub write_expr-write_or-requires : goal.write_expr-write_or-requires
-write_expr-write_or-requires t c =
-    let o = or_operands 12 c.in-Or.is c.requires in (
-      omega (arith, o.less, ap size_e c.deref-in-Or.ensures, ap size_e c.deref-in-Or-2.ensures),
-      (rw c.deref-in-Or.ensures o.left, rw c.deref-in-Or-2.ensures o.right),
-    )
 
 pub write_expr-write_equal-requires : goal.write_expr-write_equal-requires
 write_expr-write_equal-requires t c =
