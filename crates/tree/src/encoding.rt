@@ -11,6 +11,7 @@ use program::programs::MOST_BYTES;
 use std::alloc::Global;
 
 // The bytes of the program that `tree` means, or why no bytes are that program.
+#[tactic(auto, using(crate::proofs::Truth::truth_tables))]
 pub fn encode(heap: Global, tree: &Tree) -> Result<Vec<u8>, Fault>
     ensures encoded { Encoded tree.now result }
     ensures truth { TruthTables }
