@@ -1,39 +1,22 @@
 -- How many bytes a tree takes: the lengths of its parts are added, and none is lost below a million.
-use Rattle.std.proofs.Common.{◌≡◌, ℕ, ◌+◌, ◌*◌, ◌≤◌, List, [], ◌∷◌, map, fold, length, Box, refl, ap, ◌∙◌, arith, length-append}
-use Rattle.std.specs.declared.alloc.Global.{Global}
-use Rattle.program.specs.Program.{E}
+use Rattle.std.proofs.Common.{◌≡◌, ℕ, ◌+◌, ◌≤◌, List, [], ◌∷◌, map, fold, length, refl, arith, length-append}
+use Rattle.program.specs.Program.{E, yes, var, not1, and1}
 use Rattle.program.specs.Rows.{row_e, row_i, row_p, rows}
-use Rattle.tree.specs.declared.programs.Expr.{Expr, Not, And, Or, Equal, Differ}
+use Rattle.tree.specs.declared.programs.Expr.{Expr}
 use Rattle.tree.specs.declared.programs.Statement.{Statement}
 use Rattle.tree.specs.declared.programs.Statement.TheVariants.{Skip, Goto, Branch, Assign, Open, Call, Return}
 use Rattle.tree.specs.declared.programs.Procedure.{Procedure}
-use Rattle.tree.specs.Meaning.{or1, equal1, meaning_e, meaning_i, steps_from, meaning_p}
+use Rattle.tree.specs.Meaning.{meaning_e, meaning_i, steps_from, meaning_p}
 use Rattle.tree.specs.Sizes.{counted}
 
 abbrev pub size_e : Expr → ℕ
 size_e e = length (row_e (meaning_e e))
 
-or_size : (a b : E) → length (row_e (or1 a b)) ≡ 4 + length (row_e a) + length (row_e b)
-or_size a b = simp length-append (omega arith)
-
-equal_size : (a b : E) → length (row_e (equal1 a b)) ≡ 7 + 2 * (length (row_e a) + length (row_e b))
-equal_size a b = simp length-append (omega arith)
-
-pub size_not : {e : Expr} {l : Box Expr Global} → e ≡ Not l → size_e e ≡ 1 + size_e l.value
-size_not is = ap size_e is ∙ omega arith
-
-module _ {e : Expr} {l r : Box Expr Global} where
-  pub size_and : e ≡ And l r → size_e e ≡ 1 + size_e l.value + size_e r.value
-  size_and is = ap size_e is ∙ simp length-append (omega arith)
-
-  pub size_or : e ≡ Or l r → size_e e ≡ 4 + size_e l.value + size_e r.value
-  size_or is = ap size_e is ∙ or_size _ _
-
-  pub size_equal : e ≡ Equal l r → size_e e ≡ 7 + 2 * (size_e l.value + size_e r.value)
-  size_equal is = ap size_e is ∙ equal_size _ _
-
-  pub size_differ : e ≡ Differ l r → size_e e ≡ 8 + 2 * (size_e l.value + size_e r.value)
-  size_differ is = ap size_e is ∙ omega (arith, equal_size (meaning_e l.value) (meaning_e r.value))
+pub some_bytes : (e : E) → 1 ≤ length (row_e e)
+some_bytes yes = omega arith
+some_bytes (var x) = omega arith
+some_bytes (not1 e) = omega arith
+some_bytes (and1 e f) = omega arith
 
 -- a statement takes as many bytes at any place
 place_size : (k : ℕ) (s : Statement) → length (row_i (meaning_i k s)) ≡ length (row_i (meaning_i 0 s))

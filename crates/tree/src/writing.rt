@@ -30,7 +30,7 @@ const CALL: u8 = StepKind::Call as u8;
 const RETURN: u8 = StepKind::Return as u8;
 
 // Left equals right.
-#[tactic(auto, using(crate::proofs::Operands::some_bytes))]
+#[tactic(auto, using(crate::proofs::Sizing::some_bytes))]
 #[cycle(write_equal_write_expr)]
 fn write_equal(out: &mut Vec<u8>, left: &Expr, right: &Expr) -> Result<(), AllocError>
     requires { (OkE 12 (meaning_e left.now)) × (OkE 12 (meaning_e right.now)) }

@@ -1,4 +1,4 @@
-use Rattle.tree.proofs.Whole.{kept_small}
+use Rattle.tree.proofs.Wider.{kept_small}
 use Rattle.tree.proofs.encoding.encode.Goals as goal
 
 pub write_procedures-requires : goal.write_procedures-requires
