@@ -42,14 +42,6 @@ rest_i (go e p) b t r h = subst (λ n. RestI n t r (go e p)) (sym (heads h)) (p,
 rest_i (call f) b t r h = subst (λ n. RestI n t r (call f)) (sym (heads h)) (f, refl, tails h)
 rest_i return b t r h = subst (λ n. RestI n t r return) (sym (heads h)) (refl, tails h)
 
-pub unknown_i : (b : ℕ) (t r : List ℕ) (s : I) → 5 ≤ b → RestI b t r s → ⊥
-unknown_i zero t r s h k = omega arith
-unknown_i (suc zero) t r s h k = omega arith
-unknown_i (suc (suc zero)) t r s h k = omega arith
-unknown_i (suc (suc (suc zero))) t r s h k = omega arith
-unknown_i (suc (suc (suc (suc zero)))) t r s h k = omega arith
-unknown_i (suc (suc (suc (suc (suc b))))) t r s h k = k
-
 -- of two rows that begin alike, with anything behind them, both are the same, and so is what is behind
 abbrev pub Prefixed : {A : Type 0} → (A → List ℕ) → Type 0
 Prefixed {A} row = (a b : A) (r q : List ℕ) → row a ++ r ≡ row b ++ q → (a ≡ b) × (r ≡ q)

@@ -1,12 +1,11 @@
 -- Reading one step: a case for each byte that comes first, as for an expression.
-use Rattle.std.proofs.Common.{◌≡◌, ℕ, ◌+◌, ◌<◌, ◌≤◌, ◌⊎◌, List, [], ◌∷◌, length, Ok, sym, refl, ◌∙◌, subst, ⊎_elim, arith}
+use Rattle.std.proofs.Common.{◌≡◌, ℕ, ◌+◌, ◌<◌, List, [], ◌∷◌, length, Ok, refl, subst, arith}
 use Rattle.program.specs.declared.steps.Step.TheVariants.{Set, Open, Go, Call, Return}
 use Rattle.program.specs.declared.steps.Scope.{Scope}
 use Rattle.program.specs.Program.{I, set, open1, go, call, return}
 use Rattle.program.specs.Rows.{row_e, row_i, OkE}
-use Rattle.program.specs.Reading.{Stands, Got, Nothing, InScope, ReadNumber, ReadStep}
-use Rattle.program.proofs.Standing.{stands_join, stands_pair, past_end}
-use Rattle.program.proofs.Prefix.{rest_i, unknown_i}
+use Rattle.program.specs.Reading.{Stands, Got, ReadNumber, ReadStep}
+use Rattle.program.proofs.Standing.{stands_join, stands_pair}
 
 pub row_i_some : (i : I) → 0 < length (row_i i)
 row_i_some (set x e) = omega arith
@@ -14,10 +13,6 @@ row_i_some (open1 x) = omega arith
 row_i_some (go e p) = omega arith
 row_i_some (call f) = omega arith
 row_i_some return = omega arith
-
--- no byte comes first, or one that begins no step
-pub no_step : (c : Scope) (s : List ℕ) (at : ℕ) {P : ℕ → Type 0} → (length s ≤ at) ⊎ ((b : ℕ) × Stands s at (at + 1) (b ∷ []) × ((5 ≤ b) × P b)) → Nothing row_i (InScope c) s at
-no_step c s at h i r q o = ⊎_elim (λ l. past_end s (row_i i) r (row_i_some i) l q) (λ k. unknown_i k.0 _ r i k.2.0 (rest_i i k.0 _ r (sym k.1.is ∙ q))) h
 
 -- the byte b comes first
 module _ (c : Scope) (s : List ℕ) (at b : ℕ) (first : Stands s at (at + 1) (b ∷ [])) where

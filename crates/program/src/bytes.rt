@@ -1,4 +1,5 @@
-// Single bytes of a program: the leaves of the reader.
+// Single bytes of a program: the leaves of the reader. Places in the bytes are passed by value and not in
+// a cursor that moves on, since a step keeps where its expression stands, and evaluating goes back there.
 ghost use Rattle.program.specs.Reading.{ReadByte, ReadNumber, ReadKind};
 
 use crate::refusals::{Reason, Refusal};

@@ -25,7 +25,7 @@ pub fn read_expression(bytes: &[u8], at: usize, vars: usize) -> Result<usize, Re
     }
 }
 
-// What an expression says, and where it ends.
+// What an expression says, and where it ends: both are always there, so this is no Option.
 #[derive(Clone, Copy)]
 pub struct Valued {
     pub holds: bool,

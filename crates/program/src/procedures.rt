@@ -45,6 +45,7 @@ fn read_steps(bytes: &[u8], at: usize, count: u8, scope: Scope) -> Result<usize,
     ensures { ReadSteps scope bytes.now count at result }
 {
     let mut end = at;
+    // a `try_fold` would be the same `?` in a closure
     for _i in 0..count {
         let found = read_step(bytes, end, scope)?;
         end = found.end;

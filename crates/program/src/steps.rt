@@ -7,6 +7,9 @@ use crate::expressions::read_expression;
 use crate::kinds::StepKind;
 use crate::refusals::{Reason, Refusal};
 
+// The numbers here fit a byte. Those of a tree, which may be too large, are types of its own crate: one
+// generic type for both would name a width wherever a number is named.
+
 // A procedure's number: procedure 0 begins.
 #[derive(Clone, Copy)]
 pub struct ProcNo(pub u8);
@@ -19,7 +22,7 @@ pub struct PlaceNo(pub u8);
 #[derive(Clone, Copy)]
 pub struct VarNo(pub u8);
 
-// An expression, by where it stands in the bytes.
+// An expression, by where it stands in the bytes: there is no heap here for a tree of it.
 #[derive(Clone, Copy)]
 pub struct ExprAt(pub usize);
 

@@ -1,7 +1,7 @@
 use Rattle.std.proofs.Common.{ap, ◌∙◌}
 use Rattle.std.proofs.lemmas.Result.{err_from_is_err_and}
 use Rattle.program.specs.Kinds.{byte_e}
-use Rattle.program.proofs.ReadingExpr.{no_expr, is_var, no_var, is_not, no_and, is_and}
+use Rattle.program.proofs.ReadingExpr.{no_expr, is_var}
 use Rattle.program.proofs.expressions.+read_expression.Goals as goal
 
 pub returns-in_err-read_kind : goal.returns-in_err-read_kind
@@ -9,4 +9,3 @@ returns-in_err-read_kind t c = let p = err_from_is_err_and c.from_residual.resul
 
 pub returns-in_ok-_var-in-Var : goal.returns-in_ok-_var-in-Var
 returns-in_ok-_var-in-Var t c = is_var _ _ _ _ c.in_ok-read_kind.ensures.1 _ (c.in_ok-read_kind.ensures.2 ∙ ap byte_e c.in-Var.is) c.in_ok-_var-in-Var.ensures
-

@@ -1,7 +1,7 @@
 use Rattle.std.proofs.Common.{◌+◌, Ok, subst, arith}
 use Rattle.std.proofs.lemmas.Result.{err_from_is_err_and}
 use Rattle.program.specs.Reading.{NoSteps, ReadSteps}
-use Rattle.program.proofs.ReadingProc.{no_count, no_body, inside_is, is_proc}
+use Rattle.program.proofs.ReadingProc.{no_body, inside_is, is_proc}
 use Rattle.program.proofs.procedures.read_procedure.Goals as goal
 
 pub returns-in_err-end : goal.returns-in_err-end

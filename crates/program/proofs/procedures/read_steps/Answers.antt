@@ -1,6 +1,6 @@
-use Rattle.std.proofs.Common.{◌+◌, ◌-◌, Ok, Err, arith}
+use Rattle.std.proofs.Common.{◌-◌, Ok, Err, arith}
 use Rattle.std.proofs.lemmas.Result.{err_from_is_err_and}
-use Rattle.program.proofs.ReadingProc.{steps_done, no_steps, steps_more}
+use Rattle.program.proofs.ReadingProc.{steps_done, no_steps}
 use Rattle.program.proofs.procedures.read_steps.Goals as goal
 
 pub returns-in_err-found : goal.returns-in_err-found

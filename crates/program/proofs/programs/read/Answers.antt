@@ -1,12 +1,7 @@
 use Rattle.std.proofs.Common.{refl, arith}
 use Rattle.std.proofs.lemmas.Result.{err_from_is_err_and}
-use Rattle.program.proofs.ReadingProgram.{no_first, no_procs, no_second, small, whole}
+use Rattle.program.proofs.ReadingProgram.{no_procs, no_second, small, whole}
 use Rattle.program.proofs.programs.read.Goals as goal
-
-pub returns-in_err-counted-clause-reads : goal.returns-in_err-counted-clause-reads
-returns-in_err-counted-clause-reads c =
-    let p = err_from_is_err_and c.from_residual-in_err-counted.result c.from_residual-in_err-counted.ensures.1 in
-    rw p.1 (no_first _ _ c.in_ok-shared.ensures c.in_err-counted.ensures)
 
 pub returns-then-counted-eq0-clause-reads : goal.returns-then-counted-eq0-clause-reads
 returns-then-counted-eq0-clause-reads c = no_procs _ _ c.in_ok-shared.ensures _ _ refl _ c.in_ok-counted.ensures (omega arith)

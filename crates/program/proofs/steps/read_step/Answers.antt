@@ -1,8 +1,7 @@
 use Rattle.std.proofs.Common.{◌+◌, Ok, ap, ◌∙◌, subst}
-use Rattle.std.proofs.lemmas.Result.{err_from_is_err_and}
 use Rattle.program.specs.Reading.{ReadNumber}
 use Rattle.program.specs.Kinds.{byte_i}
-use Rattle.program.proofs.ReadingStep.{no_step, is_set, is_open, is_go, is_call, is_return}
+use Rattle.program.proofs.ReadingStep.{is_set, is_open, is_go, is_call, is_return}
 use Rattle.program.proofs.steps.read_step.Goals as goal
 
 pub returns-in_ok-end-in-Set : goal.returns-in_ok-end-in-Set
