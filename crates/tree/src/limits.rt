@@ -10,7 +10,7 @@ use crate::programs::{Expr, PlaceNo, ProcNo, Procedure, Statement, Tree, VarNo};
 use program::procedures::MOST_VARIABLES; // shared, and as many of a procedure's own
 use program::programs::MOST_PROCEDURES;
 
-pub const MOST_STATEMENTS: usize = 255;
+pub const MOST_STATEMENTS: usize = u8::MAX as usize; // a byte tells how many there are
 
 // What the statements of a procedure may name: variables below `vars`, places up to `statements`,
 // the one behind the last statement, and procedures below `procedures`.
