@@ -5,11 +5,12 @@ use mathlib.Core.Option.{Option, some, none}
 use lib.Arith.{digits_lt}
 use Rattle.pushdown.specs.System as pushdown
 use Rattle.program.specs.Program.{pick, nth, put, blank, I, set, open1, go, call, return, Proc, Prog, Frame, St, all, value}
-use Rattle.program.specs.Table.{num, before, spot}
+use Rattle.program.specs.Table.{num, spot}
 use Rattle.program.specs.Values.{bits}
 use Rattle.program.specs.Runs.{with_all, to, next, step_at, back_to, Step, sets, opens, goes, calls, returns, runs_out, begin, Reached, at_first, by, Can}
 use Rattle.program.specs.WellFormed.{Good, StOk}
 use Rattle.program.specs.Numbers.{Fits, loc, Loc, Move, on, down, up, proc_at, move_at, MoveOf, numbered}
+use Rattle.program.proofs.Sizes.{before_none}
 use Rattle.program.proofs.Nums.{bits_of, num_lt, num_append, low_part, high_part, num_blank}
 use Rattle.program.proofs.Spots.{before_inj, digits_inj, spot_mod, spot_inj}
 use Rattle.program.proofs.Kept.{step_at_is, nth_some, ok_step, reached_ok}
@@ -199,14 +200,10 @@ module _ {g : Prog} (w : Good g) {s : St} (ok : StOk g s) where
           subst (Did g s (r + x)) cq (subst (λ z. Did g s (r + z) (codes g fs)) (sym h.1) (subst (λ z. Did g s (z + code g s % 2 ^ g.shared) (codes g fs)) rq (up_did (step_at g s.top) refl (here h.0) f fs k)))
 
 -- runs
-before_first : (k : ℕ) (ps : List Proc) → before k ps 0 ≡ 0
-before_first k [] = refl
-before_first k (p ∷ ps) = refl
-
 pub begin_code : {g : Prog} → Good g → code g (begin g) ≡ 0
 begin_code {g} w =
     let r = nth_some g.procs 0 w.some_proc in
-    rw (before_first g.shared g.procs, r.1, num_append (blank g.shared) (blank r.0.own), num_blank g.shared, num_blank r.0.own) (omega arith)
+    rw (before_none g.shared g.procs, r.1, num_append (blank g.shared) (blank r.0.own), num_blank g.shared, num_blank r.0.own) (omega arith)
 
 pub to_numbers : {g : Prog} → Good g → {s : St} → Reached g s → pushdown.Reached (numbered g) 0 (code g s) (codes g s.below)
 to_numbers {g} w at_first = subst (λ n. pushdown.Reached (numbered g) 0 n []) (sym (begin_code w)) pushdown.stay

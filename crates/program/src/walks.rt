@@ -8,12 +8,12 @@ use crate::programs::Header;
 use crate::steps::{Found, Scope, read_step};
 
 // The procedures of a program: `left` of them, of which the first stands at `at`.
-#[derive(Clone, Copy)]
+#[derive(Drop)]
 pub struct Procedures<'b> {
-    bytes: &'b [u8],
-    header: Header,
-    at: usize,
-    left: usize,
+    pub bytes: &'b [u8],
+    pub header: Header,
+    pub at: usize,
+    pub left: usize,
 }
 
 impl<'b> Procedures<'b> {
@@ -53,12 +53,12 @@ impl<'b> Iterator for Procedures<'b> {
 }
 
 // The steps of a procedure: `left` of them, of which the first stands at `at`.
-#[derive(Clone, Copy)]
+#[derive(Drop)]
 pub struct Steps<'b> {
-    bytes: &'b [u8],
-    scope: Scope,
-    at: usize,
-    left: u8,
+    pub bytes: &'b [u8],
+    pub scope: Scope,
+    pub at: usize,
+    pub left: u8,
 }
 
 impl<'b> Steps<'b> {
