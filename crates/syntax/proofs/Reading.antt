@@ -1,6 +1,6 @@
 -- How the words of a text are read as numbers, one by one. Assumes nothing.
 use Rattle.std.proofs.Common.{◌≡◌, ℕ, ◌+◌, false, List, [], ◌∷◌, ◌++◌, Err, sym, ap, ◌∙◌, subst, arith}
-use Rattle.std.proofs.lemmas.List.{append_assoc, append-nil}
+use Rattle.std.proofs.lemmas.List.{append_assoc}
 use Rattle.syntax.specs.declared.decimal.Fault.{Fault}
 use Rattle.syntax.specs.declared.decimal.Fault.TheVariants.{NoNumber, TooLarge, Memory}
 use Rattle.syntax.specs.Answers.{Answers}
@@ -26,15 +26,6 @@ numbers_at [] us w (n ∷ ns) h = (n, h.0)
 numbers_at (v ∷ ws) us w [] h = absurd h
 numbers_at (v ∷ ws) us w (n ∷ ns) h = numbers_at ws us w ns h.1
 
--- at the beginning
-pub all_left : (s : List ℕ) {t ns : List ℕ} {k m : ℕ} → t ≡ s → ns ≡ [] → k ≡ 0 → m ≡ 0 → Sofar s (words [] (uncomment false t)) ns k m
-all_left s e empty long lines = record {
-  passed = [];
-  numbers = subst (Numbers []) (sym empty) tt;
-  whole = ap (λ r. words [] (uncomment false r)) (sym e);
-  paired = omega arith;
-}
-
 module _ {s ns : List ℕ} {left left' : List (List ℕ)} {k m : ℕ} (old : Sofar s left ns k m) where
   -- past a word that is a number
   pub one_more : (w : List ℕ) (n : ℕ) {ns' : List ℕ} {k' m' : ℕ} → left ≡ w ∷ left' → Number w n → ns' ≡ ns ++ n ∷ [] → k' ≡ k + 1 → m' ≡ m + 1 → Sofar s left' ns' k' m'
@@ -52,10 +43,6 @@ module _ {s ns : List ℕ} {left left' : List (List ℕ)} {k m : ℕ} (old : Sof
   refused w next none all is =
       let here = numbers_at old.passed left' w all (subst (λ ws. Numbers ws all) (old.whole ∙ ap (λ ws. old.passed ++ ws) next) is) in
       none here.0 here.1
-
--- at the end
-pub done : {s ns : List ℕ} {left : List (List ℕ)} {k m : ℕ} → Sofar s left ns k m → left ≡ [] → Lists s ns
-done {s} {ns} old none = subst (λ ws. Numbers ws ns) (sym (old.whole ∙ ap (λ ws. old.passed ++ ws) none ∙ append-nil old.passed)) old.numbers
 
 -- any fault but want of memory says that nothing is listed
 pub faulty : (s : List ℕ) (y : Fault) → ((all : List ℕ) → Lists s all → ⊥) → Answers s (Err y)

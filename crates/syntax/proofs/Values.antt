@@ -1,7 +1,7 @@
 -- The value of a word, digit by digit. Assumes nothing.
 use Rattle.std.proofs.Common.{◌≡◌, ℕ, ◌+◌, ◌-◌, ◌*◌, ◌<◌, ◌≤◌, min, List, [], ◌∷◌, length, fold, refl, ap, ◌∙◌, arith}
-use Rattle.std.specs.List.{AllWithin, HoldsAt}
-use Rattle.std.proofs.ByRecursion.{All-get_or, All-from_get_or}
+use Rattle.std.specs.List.{AllWithin}
+use Rattle.std.proofs.ByRecursion.{All-from_get_or}
 use Rattle.syntax.specs.Decimal.{Number}
 
 abbrev pub Digit : ℕ → Type 0
@@ -19,9 +19,6 @@ capped_from v [] = refl
 capped_from v (b ∷ w) =
     let more : min (10 * min v 4294967295 + (b - 48)) 4294967295 ≡ min (10 * v + (b - 48)) 4294967295 = omega arith in
     ap (λ a. fold (λ v b. min (10 * v + (b - 48)) 4294967295) a w) more ∙ capped_from (10 * v + (b - 48)) w
-
-pub no_digit : (w : List ℕ) (i : ℕ) → i < length w → HoldsAt (λ b. Digit b → ⊥) w i → (n : ℕ) → Number w n → ⊥
-no_digit w i h out n is = out 0 (All-get_or Digit w i 0 h is.digits)
 
 pub too_large : (w : List ℕ) (v : ℕ) → v ≡ capped w → 256 ≤ v → (n : ℕ) → Number w n → ⊥
 too_large w v e l n is = let value = is.value in let fits = is.fits in omega (arith, capped_from 0 w)

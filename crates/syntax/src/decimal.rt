@@ -77,6 +77,7 @@ pub fn read_decimal(heap: Global, text: &[u8]) -> Result<Listing, Fault>
 
 // What is written as decimal numbers with a space after each is listed as it was: a law of the
 // form, with nothing to compute.
+#[tactic(auto, using(crate::proofs::Writing::lists_written))]
 pub fn lists_written()
     ensures { ListsWritten }
 {}
