@@ -15,4 +15,6 @@ pub mod printer;
 mod procedures;
 pub mod refusals;
 mod statements;
+#[cfg(test)]
+mod tests;
 pub mod tokens;
