@@ -40,6 +40,9 @@ module _ (k m : ℕ) (s : List ℕ) (at : ℕ) where
       abbrev pub inside : Scope
       inside = record { vars = k + x; last = record { 0 = y }; procs = m }
 
+      pub inside_is : (c : Scope) → c.vars ≡ k + x → c.last.0 ≡ y → c.procs ≡ m → c ≡ inside
+      inside_is c v l p = λ i. record { vars = v i; last = record { 0 = l i }; procs = p i }
+
       pub no_body : NoSteps inside s y (at + 2) → Nothing row_p (OkP k m) s at
       no_body q p r h o =
           let e = after_own p r h in

@@ -7,6 +7,7 @@ pub mod Table
 pub mod Values
 pub mod Reading
 pub mod Walking
+pub mod Walks
 pub mod Systems
 pub mod Numbers
 pub mod WellFormed

@@ -13,3 +13,4 @@ pub mod steps;
 #[cfg(test)]
 mod tests;
 pub mod values;
+pub mod walks;

@@ -4,7 +4,7 @@ ghost use Rattle.program.specs.Reading.{ReadSteps, ReadProc};
 
 use crate::bytes::{read_byte, read_number};
 use crate::refusals::{Reason, Refusal};
-use crate::steps::{PlaceNo, Scope, read_step};
+use crate::steps::{Scope, read_step};
 
 // The most variables that are shared, and that a procedure has of its own.
 pub const MOST_VARIABLES: usize = 6;
@@ -61,11 +61,7 @@ pub fn read_procedure(
 {
     let own = read_number(bytes, at, MOST_VARIABLES + 1, Reason::TooManyVariables)?;
     let steps = read_byte(bytes, at + 1)?;
-    let scope = Scope {
-        vars: shared as usize + own as usize,
-        last: PlaceNo(steps),
-        procs,
-    };
+    let scope = Scope::new(shared, own, steps, procs);
     let end = read_steps(bytes, at + 2, steps, scope)?;
     Ok(Procedure {
         own,

@@ -4,8 +4,9 @@ ghost use Rattle.program.specs.Rows.{OneProgram};
 ghost use Rattle.program.specs.Reading.{ReadProcs, ReadProgram};
 
 use crate::bytes::read_number;
-use crate::procedures::{MOST_VARIABLES, read_procedure, table_size, values};
+use crate::procedures::{MOST_VARIABLES, Procedure, read_procedure, table_size, values};
 use crate::refusals::{Reason, Refusal};
+use crate::steps::Scope;
 
 // The most bytes and procedures that a program has.
 pub const MOST_BYTES: usize = 8192;
@@ -20,6 +21,43 @@ pub struct Header {
     pub procs: usize,
     pub table: usize,
     pub work: usize,
+}
+
+impl Header {
+    // What the steps of this procedure of the program may name.
+    pub fn scope(self, procedure: Procedure) -> Scope
+        ensures vars { result.vars ≡ self.shared + procedure.own }
+        ensures last { result.last.0 ≡ procedure.steps }
+        ensures procs { result.procs ≡ self.procs }
+    {
+        Scope::new(self.shared, procedure.own, procedure.steps, self.procs)
+    }
+
+    // How many values the shared variables can have.
+    pub fn shared_values(self) -> usize
+        requires { self.shared ≤ 6 }
+        ensures { result ≡ 2 ^ self.shared }
+    {
+        values(self.shared)
+    }
+
+    // How many values the variables of this procedure, and the shared ones, can have: as many bytes has
+    // each of its places in the table.
+    pub fn width(self, procedure: Procedure) -> usize
+        requires { (self.shared ≤ 6) × (procedure.own ≤ 6) }
+        ensures { result ≡ 2 ^ (self.shared + procedure.own) }
+    {
+        values(self.shared + procedure.own)
+    }
+
+    // The bytes that this procedure has in the table.
+    pub fn table_size(self, procedure: Procedure) -> usize
+        requires { (self.shared ≤ 6) × (procedure.own ≤ 6) }
+        ensures is { result ≡ (procedure.steps + 1) * 2 ^ (self.shared + procedure.own) }
+        ensures small { result ≤ 2 ^ 20 }
+    {
+        table_size(self.shared, procedure.own, procedure.steps)
+    }
 }
 
 // The work words that a program asks for whose table has so many bytes.

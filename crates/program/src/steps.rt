@@ -1,4 +1,5 @@
 // Steps of a procedure, read one at a time.
+ghost use Rattle.std.specs.Prelude.{◌≡◌, ◌+◌};
 ghost use Rattle.program.specs.Reading.{ReadStep};
 
 use crate::bytes::{read_byte, read_number};
@@ -44,6 +45,22 @@ pub struct Scope {
     pub vars: usize,
     pub last: PlaceNo,
     pub procs: usize,
+}
+
+impl Scope {
+    // What the steps may name of a procedure with so many variables of its own and so many steps, where
+    // so many variables are shared and there are so many procedures.
+    pub fn new(shared: u8, own: u8, steps: u8, procs: usize) -> Scope
+        ensures vars { result.vars ≡ shared + own }
+        ensures last { result.last.0 ≡ steps }
+        ensures procs { result.procs ≡ procs }
+    {
+        Scope {
+            vars: usize::from(shared) + usize::from(own),
+            last: PlaceNo(steps),
+            procs,
+        }
+    }
 }
 
 // The step at `at`.

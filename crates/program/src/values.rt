@@ -3,12 +3,24 @@
 ghost use Rattle.std.specs.Prelude.{◌<◌, true, false};
 ghost use Rattle.program.specs.Values.{Puts, Tests};
 
+// The values with variable `var` become `yes`.
+pub fn put_bit(values: u32, var: u32, yes: bool) -> u32
+    requires { var < 32 }
+    ensures { Puts values var yes result }
+{
+    if yes {
+        values | (1 << var)
+    } else {
+        values & !(1 << var)
+    }
+}
+
 // The values with variable `var` yes.
 pub fn set_bit(values: u32, var: u32) -> u32
     requires { var < 32 }
     ensures { Puts values var true result }
 {
-    values | (1 << var)
+    put_bit(values, var, true)
 }
 
 // The values with variable `var` no.
@@ -16,7 +28,7 @@ pub fn clear_bit(values: u32, var: u32) -> u32
     requires { var < 32 }
     ensures { Puts values var false result }
 {
-    values & !(1 << var)
+    put_bit(values, var, false)
 }
 
 // Whether variable `var` is yes.
