@@ -13,6 +13,7 @@ mod nearest;
 pub mod parser;
 pub mod printer;
 mod procedures;
+mod reader;
 pub mod refusals;
 mod statements;
 #[cfg(test)]
