@@ -150,21 +150,21 @@ module _ {g : Prog} (w : Good g) {s : St} (ok : StOk g s) where
   put_did x b m d e = record { t = with_all s (put (all s) x b); step = d; top_is = put_code x b ∙ sym (rw top_bits at e); below_is = refl }
 
   flow_did : (o : Option I) → step_at g s.top ≡ o → (x y m : ℕ) → on x y ≡ at_here o → (m ≡ x) ⊎ (m ≡ y) → Did g s m (codes g s.below)
-  flow_did none h x y m e k = absurd (let z : ◌≡◌ {A = ℕ} 0 1 = cc in omega arith)
+  flow_did none h x y m e k = absurd cc
   flow_did (some (set v i)) h x y m e k = put_did v (value (all s) i) m (sets v i h) (rw top_bits (rw top_bits at (one_of e k)))
   flow_did (some (open1 v)) h x y m e (inl k) = put_did v true m (opens v true h) (k ∙ fst_of e)
   flow_did (some (open1 v)) h x y m e (inr k) = put_did v false m (opens v false h) (k ∙ snd_of e)
   flow_did (some (go i t)) h x y m e k =
       let b = value (all s) i in
       record { t = pick b (to s t) (to s (a0 + 1)); step = goes i t h; top_is = to_code b t (a0 + 1) ∙ sym (rw top_bits at (one_of e k)); below_is = ap (codes g) (to_below b t (a0 + 1)) }
-  flow_did (some (call d)) h x y m e k = absurd (let z : ◌≡◌ {A = ℕ} 0 1 = cc in omega arith)
-  flow_did (some return) h x y m e k = absurd (let z : ◌≡◌ {A = ℕ} 0 1 = cc in omega arith)
+  flow_did (some (call d)) h x y m e k = absurd cc
+  flow_did (some return) h x y m e k = absurd cc
 
   call_did : (o : Option I) → step_at g s.top ≡ o → (m r : ℕ) → down m r ≡ at_here o → Did g s m (r ∷ codes g s.below)
-  call_did none h m r e = absurd (let z : ◌≡◌ {A = ℕ} 0 1 = cc in omega arith)
-  call_did (some (set v i)) h m r e = absurd (let z : ◌≡◌ {A = ℕ} 0 1 = cc in omega arith)
-  call_did (some (open1 v)) h m r e = absurd (let z : ◌≡◌ {A = ℕ} 0 1 = cc in omega arith)
-  call_did (some (go i t)) h m r e = absurd (let z : ◌≡◌ {A = ℕ} 0 1 = cc in omega arith)
+  call_did none h m r e = absurd cc
+  call_did (some (set v i)) h m r e = absurd cc
+  call_did (some (open1 v)) h m r e = absurd cc
+  call_did (some (go i t)) h m r e = absurd cc
   call_did (some (call d)) h m r e =
       let q = nth_some g.procs d (ok_step w f0 p0 a0 (call d) ok.top.there (sym (step_at_is g s.top p0 ok.top.there) ∙ h)) in
       record {
@@ -173,14 +173,14 @@ module _ {g : Prog} (w : Good g) {s : St} (ok : StOk g s) where
         top_is = call_code d q.0 (next s.top ∷ s.below) q.1 ∙ sym (callee_of e);
         below_is = ap (λ z. z ∷ codes g s.below) (next_code ∙ sym (waiter_of e));
       }
-  call_did (some return) h m r e = absurd (let z : ◌≡◌ {A = ℕ} 0 1 = cc in omega arith)
+  call_did (some return) h m r e = absurd cc
 
   up_did : (o : Option I) → step_at g s.top ≡ o → up ≡ at_here o → (f : Frame) (fs : List Frame) → s.below ≡ f ∷ fs → Did g s (code_frame g f + code g s % 2 ^ g.shared) (codes g fs)
   up_did none h e f fs k = record { t = back_to s f fs; step = runs_out f fs h k; top_is = back_code f fs; below_is = refl }
-  up_did (some (set v i)) h e f fs k = absurd (let z : ◌≡◌ {A = ℕ} 0 1 = cc in omega arith)
-  up_did (some (open1 v)) h e f fs k = absurd (let z : ◌≡◌ {A = ℕ} 0 1 = cc in omega arith)
-  up_did (some (go i t)) h e f fs k = absurd (let z : ◌≡◌ {A = ℕ} 0 1 = cc in omega arith)
-  up_did (some (call d)) h e f fs k = absurd (let z : ◌≡◌ {A = ℕ} 0 1 = cc in omega arith)
+  up_did (some (set v i)) h e f fs k = absurd cc
+  up_did (some (open1 v)) h e f fs k = absurd cc
+  up_did (some (go i t)) h e f fs k = absurd cc
+  up_did (some (call d)) h e f fs k = absurd cc
   up_did (some return) h e f fs k = record { t = back_to s f fs; step = returns f fs h k; top_is = back_code f fs; below_is = refl }
 
   here : {m : Move} → MoveOf g (code g s) m → m ≡ at_here (step_at g s.top)
@@ -192,7 +192,7 @@ module _ {g : Prog} (w : Good g) {s : St} (ok : StOk g s) where
   backward e (pushdown.exits {x = x} {r = r} {s = cs} h) = off s.below refl e
     where
       off : (b : List Frame) → s.below ≡ b → codes g b ≡ r ∷ cs → Did g s (r + x) cs
-      off [] k q = absurd (let z : ◌≡◌ {A = ℕ} 0 1 = cc in omega arith)
+      off [] k q = absurd cc
       off (f ∷ fs) k q =
           let rq : code_frame g f ≡ r = cc in
           let cq : codes g fs ≡ cs = cc in

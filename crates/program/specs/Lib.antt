@@ -3,6 +3,7 @@
 pub mod Program
 pub mod Runs
 pub mod Rows
+pub mod Kinds
 pub mod Table
 pub mod Values
 pub mod Reading

@@ -5,6 +5,7 @@
 
 pub mod bytes;
 pub mod expressions;
+pub mod kinds;
 pub mod laws;
 pub mod procedures;
 pub mod programs;

@@ -15,7 +15,7 @@ pub const MOST_PROCEDURES: usize = 64;
 
 // What is known of a program once it is read: its shared variables, its procedures, the bytes of its
 // table, and the work words that deciding it wants.
-#[derive(Clone, Copy, PartialEq, Debug)]
+#[derive(Clone, Copy, PartialEq, Eq, Debug)]
 pub struct Header {
     pub shared: u8,
     pub procs: usize,
@@ -23,6 +23,7 @@ pub struct Header {
     pub work: usize,
 }
 
+// What the methods ask of the numbers is in no ghost field: headers and procedures may be made of any.
 impl Header {
     // What the steps of this procedure of the program may name.
     pub fn scope(self, procedure: Procedure) -> Scope
@@ -76,12 +77,14 @@ struct Tally {
 }
 
 // The procedures from byte 1 to the end, each of which may call those below `procs`.
+#[tactic(auto, using(crate::proofs::ReadingProgram::procs_more))]
 fn read_procedures(bytes: &[u8], shared: u8, procs: usize) -> Result<Tally, Refusal>
     requires { (1 ≤ length bytes.now) × (shared ≤ 6) }
     ensures { ReadProcs shared procs bytes.now 1 64 (record { count = 0; table = 0 }) result }
 {
     let mut end = 1;
     let mut tally = Tally { count: 0, table: 0 };
+    // no `for`: where the next one begins is known once this one is read
     while end < bytes.len() {
         if tally.count == MOST_PROCEDURES {
             return Err(Refusal {
@@ -91,16 +94,15 @@ fn read_procedures(bytes: &[u8], shared: u8, procs: usize) -> Result<Tally, Refu
         }
         let found = read_procedure(bytes, end, shared, procs)?;
         let size = table_size(shared, found.own, found.steps);
-        tally = Tally {
-            count: tally.count + 1,
-            table: tally.table + size,
-        };
+        tally.count += 1;
+        tally.table += size;
         end = found.end;
     }
     Ok(tally)
 }
 
 // The program that these bytes are.
+#[tactic(auto, using(crate::proofs::Prefix::one_program, crate::proofs::ReadingProgram::no_first))]
 pub fn read(bytes: &[u8]) -> Result<Header, Refusal>
     ensures reads { ReadProgram bytes.now result }
     ensures one { OneProgram }

@@ -2,9 +2,13 @@
 ghost use Rattle.std.specs.Prelude.{◌≡◌, ◌+◌};
 ghost use Rattle.program.specs.Reading.{ReadStep};
 
-use crate::bytes::{read_byte, read_number};
+use crate::bytes::{read_kind, read_number};
 use crate::expressions::read_expression;
+use crate::kinds::StepKind;
 use crate::refusals::{Reason, Refusal};
+
+// The numbers here fit a byte. Those of a tree, which may be too large, are types of its own crate: one
+// generic type for both would name a width wherever a number is named.
 
 // A procedure's number: procedure 0 begins.
 #[derive(Clone, Copy)]
@@ -18,7 +22,7 @@ pub struct PlaceNo(pub u8);
 #[derive(Clone, Copy)]
 pub struct VarNo(pub u8);
 
-// An expression, by where it stands in the bytes.
+// An expression, by where it stands in the bytes: there is no heap here for a tree of it.
 #[derive(Clone, Copy)]
 pub struct ExprAt(pub usize);
 
@@ -67,9 +71,8 @@ impl Scope {
 pub fn read_step(bytes: &[u8], at: usize, scope: Scope) -> Result<Found, Refusal>
     ensures { ReadStep scope bytes.now at result }
 {
-    let tag = read_byte(bytes, at)?;
-    match tag {
-        0 => {
+    match read_kind(bytes, at)? {
+        StepKind::Set => {
             let var = read_number(bytes, at + 1, scope.vars, Reason::NoSuchVariable)?;
             let end = read_expression(bytes, at + 2, scope.vars)?;
             Ok(Found {
@@ -80,15 +83,15 @@ pub fn read_step(bytes: &[u8], at: usize, scope: Scope) -> Result<Found, Refusal
                 end,
             })
         }
-        1 => {
+        StepKind::Open => {
             let open = read_number(bytes, at + 1, scope.vars, Reason::NoSuchVariable)?;
             Ok(Found {
                 step: Step::Open(VarNo(open)),
                 end: at + 2,
             })
         }
-        2 => {
-            let places = scope.last.0 as usize + 1;
+        StepKind::Go => {
+            let places = usize::from(scope.last.0) + 1;
             let place = read_number(bytes, at + 1, places, Reason::NoSuchPlace)?;
             let past = read_expression(bytes, at + 2, scope.vars)?;
             Ok(Found {
@@ -99,20 +102,16 @@ pub fn read_step(bytes: &[u8], at: usize, scope: Scope) -> Result<Found, Refusal
                 end: past,
             })
         }
-        3 => {
+        StepKind::Call => {
             let callee = read_number(bytes, at + 1, scope.procs, Reason::NoSuchProcedure)?;
             Ok(Found {
                 step: Step::Call(ProcNo(callee)),
                 end: at + 2,
             })
         }
-        4 => Ok(Found {
+        StepKind::Return => Ok(Found {
             step: Step::Return,
             end: at + 1,
-        }),
-        5..=255 => Err(Refusal {
-            at,
-            reason: Reason::UnknownStep,
         }),
     }
 }

@@ -4,6 +4,7 @@ ghost use Rattle.std.specs.Prelude.{◌<◌, true, false};
 ghost use Rattle.program.specs.Values.{Puts, Tests};
 
 // The values with variable `var` become `yes`.
+#[tactic(auto, using(crate::proofs::Nums::bits_yes, crate::proofs::Nums::yes_lt, crate::proofs::Nums::bits_no, crate::proofs::Nums::no_lt))]
 pub fn put_bit(values: u32, var: u32, yes: bool) -> u32
     requires { var < 32 }
     ensures { Puts values var yes result }
@@ -32,6 +33,7 @@ pub fn clear_bit(values: u32, var: u32) -> u32
 }
 
 // Whether variable `var` is yes.
+#[tactic(auto, using(crate::proofs::Nums::bit_is))]
 pub fn test_bit(values: u32, var: u32) -> bool
     requires { var < 32 }
     ensures { Tests values var result }

@@ -1,5 +1,6 @@
 // Walking through a program that was read: its procedures, and the steps of each, in order. Both walks
-// end early only where what comes next can't be read, which in a program that was read is nowhere.
+// end early only where what comes next can't be read, which in a program that was read is nowhere. Two walks
+// and not a generic one, which would want a trait longer than the lines of `next` that they share.
 ghost use Rattle.program.specs.Walks.{AtProcedure, AtStep};
 
 use crate::procedures::{Procedure, read_procedure};

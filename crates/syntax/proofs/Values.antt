@@ -1,30 +1,34 @@
 -- The value of a word, digit by digit. Assumes nothing.
-use Rattle.std.proofs.Common.{◌≡◌, ℕ, ◌+◌, ◌-◌, ◌*◌, ◌<◌, ◌≤◌, min, List, length, get_or, take, fold, ap, subst, arith}
-use Rattle.std.specs.List.{AllByRecursion}
-use Rattle.std.proofs.ByRecursion.{All-get_or}
-use Rattle.std.proofs.lemmas.List.{take_all}
-use Rattle.std.proofs.lemmas.List.Sums.{fold_more}
+use Rattle.std.proofs.Common.{◌≡◌, ℕ, ◌+◌, ◌-◌, ◌*◌, ◌<◌, ◌≤◌, min, List, [], ◌∷◌, length, fold, refl, ap, ◌∙◌, arith}
+use Rattle.std.specs.List.{AllWithin, HoldsAt}
+use Rattle.std.proofs.ByRecursion.{All-get_or, All-from_get_or}
 use Rattle.syntax.specs.Decimal.{Number}
 
-abbrev pub Digits : List ℕ → Type 0
-Digits w = AllByRecursion (λ b. (48 ≤ b) × (b ≤ 57)) w
+abbrev pub Digit : ℕ → Type 0
+Digit b = (48 ≤ b) × (b ≤ 57)
 
 abbrev pub val : List ℕ → ℕ
 val w = fold (λ v b. 10 * v + (b - 48)) 0 w
 
--- a digit more
-pub value_more : (w : List ℕ) (i : ℕ) → i < length w → val (take (i + 1) w) ≡ 10 * val (take i w) + (get_or w i 0 - 48)
-value_more w i h = fold_more (λ v b. 10 * v + (b - 48)) 0 w i 0 h
+-- the value where it stops at the greatest number of 32 bits
+abbrev pub capped : List ℕ → ℕ
+capped w = fold (λ v b. min (10 * v + (b - 48)) 4294967295) 0 w
 
-pub no_digit : (w : List ℕ) (i : ℕ) → i < length w → (48 ≤ get_or w i 0 → get_or w i 0 ≤ 57 → ⊥) → (n : ℕ) → Number w n → ⊥
-no_digit w i h out n is = let d = All-get_or (λ b. (48 ≤ b) × (b ≤ 57)) w i 0 h is.digits in out d.0 d.1
+capped_from : (v : ℕ) (w : List ℕ) → fold (λ v b. min (10 * v + (b - 48)) 4294967295) (min v 4294967295) w ≡ min (fold (λ v b. 10 * v + (b - 48)) v w) 4294967295
+capped_from v [] = refl
+capped_from v (b ∷ w) =
+    let more : min (10 * min v 4294967295 + (b - 48)) 4294967295 ≡ min (10 * v + (b - 48)) 4294967295 = omega arith in
+    ap (λ a. fold (λ v b. min (10 * v + (b - 48)) 4294967295) a w) more ∙ capped_from (10 * v + (b - 48)) w
 
-pub too_large : (w : List ℕ) (i v : ℕ) → length w ≤ i → v ≡ min (val (take i w)) 256 → 255 < v → (n : ℕ) → Number w n → ⊥
-too_large w i v h e l n is = let whole = ap val (take_all i w h) in let value = is.value in let fits = is.fits in omega arith
+pub no_digit : (w : List ℕ) (i : ℕ) → i < length w → HoldsAt (λ b. Digit b → ⊥) w i → (n : ℕ) → Number w n → ⊥
+no_digit w i h out n is = out 0 (All-get_or Digit w i 0 h is.digits)
 
-pub number_is : (w : List ℕ) (i v : ℕ) → length w ≤ i → Digits (take i w) → v ≡ min (val (take i w)) 256 → v ≤ 255 → Number w v
-number_is w i v h d e l = let whole = ap val (take_all i w h) in record {
-  digits = subst Digits (take_all i w h) d;
-  value = omega arith;
-  fits = l;
+pub too_large : (w : List ℕ) (v : ℕ) → v ≡ capped w → 256 ≤ v → (n : ℕ) → Number w n → ⊥
+too_large w v e l n is = let value = is.value in let fits = is.fits in omega (arith, capped_from 0 w)
+
+pub number_is : (w : List ℕ) (v : ℕ) → AllWithin Digit w 0 (length w) → v ≡ capped w → v < 256 → Number w v
+number_is w v d e l = record {
+  digits = All-from_get_or Digit w 0 (λ i h. d i 0 (omega arith) h);
+  value = omega (arith, capped_from 0 w);
+  fits = omega arith;
 }

@@ -1,5 +1,6 @@
 -- What is written as decimal numbers is listed. Assumes nothing.
 use Rattle.std.proofs.Common.{◌≡◌, ℕ, ◌+◌, ◌-◌, ◌*◌, ◌/◌, ◌%◌, ◌<◌, ◌≤◌, true, false, eqb, List, [], ◌∷◌, ◌++◌, decimal, sym, ap, ◌∙◌, subst, arith}
+use Rattle.std.specs.List.{AllByRecursion}
 use Rattle.std.proofs.lemmas.Fmt.{decimal_by_steps, decimal_nonempty}
 use Rattle.std.proofs.ByRecursion.{All-push}
 use Rattle.std.proofs.lemmas.List.{append_assoc, append-nil}
@@ -7,11 +8,11 @@ use Rattle.std.proofs.lemmas.List.Sums.{fold_push}
 use Rattle.std.proofs.lemmas.Bool.{cond-false, ne_eqb, or_from}
 use Rattle.syntax.specs.Decimal.{uncomment, gap, words, finish, Numbers, written, ListsWritten}
 use Rattle.syntax.proofs.Splitting.{some_word}
-use Rattle.syntax.proofs.Values.{Digits, val}
+use Rattle.syntax.proofs.Values.{Digit, val}
 
 -- the digits of n are digits, and n is their value
 abbrev Reads : ℕ → List ℕ → Type 0
-Reads n ds = Digits ds × (val ds ≡ n)
+Reads n ds = AllByRecursion Digit ds × (val ds ≡ n)
 
 one : (n : ℕ) → n < 10 → Reads n ((48 + n) ∷ [])
 one n h = (((omega arith, omega arith), tt), omega arith)
@@ -20,7 +21,7 @@ more : (n : ℕ) (ds : List ℕ) → 10 ≤ n → Reads (n / 10) ds → Reads n 
 more n ds h before =
     let value = before.1 in
     let push = fold_push (λ v b. 10 * v + (b - 48)) 0 ds (48 + n % 10) in
-    (All-push (λ b. (48 ≤ b) × (b ≤ 57)) ds (48 + n % 10) before.0 (omega arith, omega arith), omega arith)
+    (All-push Digit ds (48 + n % 10) before.0 (omega arith, omega arith), omega arith)
 
 decimal_reads : (n : ℕ) → n ≤ 255 → Reads n (decimal n)
 decimal_reads n h = decimal_by_steps Reads one more n (omega arith)
@@ -29,7 +30,7 @@ digit_no_gap : (b : ℕ) → 48 ≤ b → b ≤ 57 → gap b ≡ false
 digit_no_gap b l h = or_from _ _ (ne_eqb b 32 (λ e. omega arith)) (or_from _ _ (ne_eqb b 9 (λ e. omega arith)) (or_from _ _ (ne_eqb b 13 (λ e. omega arith)) (ne_eqb b 10 (λ e. omega arith))))
 
 -- digits are part of one word
-digits_on : (w ds t : List ℕ) → Digits ds → words w (uncomment false (ds ++ t)) ≡ words (w ++ ds) (uncomment false t)
+digits_on : (w ds t : List ℕ) → AllByRecursion Digit ds → words w (uncomment false (ds ++ t)) ≡ words (w ++ ds) (uncomment false t)
 digits_on w [] t d = ap (λ v. words v (uncomment false t)) (sym (append-nil w))
 digits_on w (b ∷ ds) t d =
     let low = d.0.0 in

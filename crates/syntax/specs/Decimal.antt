@@ -15,6 +15,10 @@ uncomment false (b ∷ bs) = cond (b == 35) (uncomment true bs) (b ∷ uncomment
 abbrev pub gap : ℕ → Bool
 gap b = b == 32 || (b == 9 || (b == 13 || b == 10))
 
+-- a byte that is no part of a word
+abbrev pub ends : ℕ → Bool
+ends b = b == 35 || gap b
+
 -- a word before other words; an empty one is none
 abbrev pub finish : List ℕ → List (List ℕ) → List (List ℕ)
 finish [] ws = ws

@@ -1,14 +1,16 @@
 // The byte form of a program as text: decimal numbers from 0 to 255, with blanks and line ends
 // between them, where `#` begins a comment that runs up to the end of its line. The text need not be
 // UTF-8. Relies on std alone.
-ghost use Rattle.std.specs.Prelude.{◌≡◌, ℕ, ◌-◌, ◌<◌, ◌≤◌, true, false, [], length, drop, MatchResult, ◌≢◌, slice_index, slice_range};
-ghost use Rattle.syntax.specs.Decimal.{gap, uncomment, words, finish, Number, ListsWritten};
+ghost use Rattle.std.specs.Prelude.{◌≡◌, ℕ, ◌+◌, ◌-◌, ◌*◌, ◌^◌, min, MatchResult};
+ghost use Rattle.syntax.specs.Decimal.{Number, ListsWritten};
 ghost use Rattle.syntax.specs.Answers.{Answers};
 ghost use Rattle.syntax.specs.declared.decimal.Fault.TheVariants.{Memory};
 
+use crate::words::Words;
 use std::alloc::{AllocFailed, Global};
 
-// The numbers of a text, and the line of each, where the first line is line 1.
+// The numbers of a text, and the line of each, where the first line is line 1: two lists, since what
+// reads a program takes its bytes as one slice.
 #[derive(Drop)]
 pub struct Listing {
     pub bytes: Vec<u8>,
@@ -31,6 +33,8 @@ pub enum Fault {
     Memory,
 }
 
+// By hand: the `From` of a derive has no `from_gives`, and the contracts tell want of memory from the
+// other faults.
 impl<T: Drop> From<AllocFailed<T>> for Fault {
     ghost from_gives = { λ _ r. r ≡ Memory };
 
@@ -39,59 +43,23 @@ impl<T: Drop> From<AllocFailed<T>> for Fault {
     }
 }
 
-// Whether `b` is a blank or a line end.
-fn is_gap(b: u8) -> bool
-    ensures { result ≡ gap b }
+// The value of a word with one more digit. Above a byte it stays there, however many digits follow.
+fn with_digit(value: u32, digit: &u8) -> u32
+    ensures { result ≡ min (10 * value + (digit.now - 48)) (2 ^ 32 - 1) }
 {
-    matches!(b, b' ' | b'\t' | b'\r' | b'\n')
-}
-
-// Where the comment ends that `start` stands in.
-fn comment_end(text: &[u8], start: usize) -> usize
-    requires { start ≤ length text.now }
-    ensures from { start ≤ result }
-    ensures within { result ≤ length text.now }
-    ensures skips { uncomment true (drop start text.now) ≡ uncomment false (drop result text.now) }
-{
-    let mut end = start;
-    while end < text.len() && text[end] != b'\n' {
-        end += 1;
-    }
-    end
-}
-
-// Where the word ends that begins at `start`.
-fn word_end(text: &[u8], start: usize) -> usize
-    requires begins { start < length text.now }
-    requires no_gap { gap (slice_index text.now start) ≡ false }
-    requires no_comment { slice_index text.now start ≢ 35 }
-    ensures past { start < result }
-    ensures within { result ≤ length text.now }
-    ensures splits { words [] (uncomment false (drop start text.now)) ≡ finish (slice_range text.now start result) (words [] (uncomment false (drop result text.now))) }
-{
-    let mut end = start + 1;
-    while end < text.len() && text[end] != b'#' && !is_gap(text[end]) {
-        end += 1;
-    }
-    end
+    let digit = u32::from(digit.saturating_sub(b'0'));
+    value.saturating_mul(10).saturating_add(digit)
 }
 
 // The number that the word at `place` is.
 fn number(word: &[u8], place: Place) -> Result<u8, Fault>
     ensures { MatchResult result (λ n. Number word.now n) (λ _. (n : ℕ) → Number word.now n → ⊥) }
 {
-    // A value above 255 stays above 255, however many digits follow: 256 stands for all of them.
-    let mut value: u16 = 0;
-    for b in word {
-        if !b.is_ascii_digit() {
-            return Err(Fault::NoNumber(place));
-        }
-        value = (value * 10 + u16::from(*b - b'0')).min(256);
+    if !word.iter().all(u8::is_ascii_digit) {
+        return Err(Fault::NoNumber(place));
     }
-    if value > 255 {
-        return Err(Fault::TooLarge(place));
-    }
-    Ok(value as u8)
+    let value = word.iter().fold(0, with_digit);
+    u8::try_from(value).map_err(|_| Fault::TooLarge(place))
 }
 
 // The bytes that `text` lists.
@@ -100,38 +68,18 @@ pub fn read_decimal(heap: Global, text: &[u8]) -> Result<Listing, Fault>
 {
     let mut bytes = Vec::new(heap);
     let mut lines = Vec::new(heap);
-    let mut line_ends = 0;
-    let mut at = 0;
-    while at < text.len() {
-        let b = text[at];
-        if b == b'#' {
-            at = comment_end(text, at + 1);
-        } else if is_gap(b) {
-            if b == b'\n' {
-                line_ends += 1;
-            }
-            at += 1;
-        } else {
-            let place = Place {
-                line: line_ends + 1,
-                start: at,
-                end: word_end(text, at),
-            };
-            bytes.push(number(&text[at..place.end], place)?)?;
-            lines.push(place.line)?;
-            at = place.end;
-        }
+    for (place, word) in Words::new(text) {
+        bytes.push(number(word, place)?)?;
+        lines.push(place.line)?;
     }
     Ok(Listing { bytes, lines })
 }
 
 // What is written as decimal numbers with a space after each is listed as it was: a law of the
 // form, with nothing to compute.
-pub fn lists_written() -> u8
+pub fn lists_written()
     ensures { ListsWritten }
-{
-    0
-}
+{}
 
 #[cfg(test)]
 mod tests {
@@ -160,49 +108,21 @@ mod tests {
         Ok(())
     }
 
+    fn place(line: usize, start: usize, end: usize) -> Place {
+        Place { line, start, end }
+    }
+
     #[test]
     fn refuses(rt: HostRuntime) {
         let cases = [
-            (
-                "1 x2\n",
-                Fault::NoNumber(Place {
-                    line: 1,
-                    start: 2,
-                    end: 4,
-                }),
-            ),
-            (
-                "1\n2 -3",
-                Fault::NoNumber(Place {
-                    line: 2,
-                    start: 4,
-                    end: 6,
-                }),
-            ),
-            (
-                "256#x",
-                Fault::TooLarge(Place {
-                    line: 1,
-                    start: 0,
-                    end: 3,
-                }),
-            ),
+            ("1 x2\n", Fault::NoNumber(place(1, 2, 4))),
+            ("1\n2 -3", Fault::NoNumber(place(2, 4, 6))),
+            ("256#x", Fault::TooLarge(place(1, 0, 3))),
             (
                 "\n 99999999999999999999999",
-                Fault::TooLarge(Place {
-                    line: 2,
-                    start: 2,
-                    end: 25,
-                }),
+                Fault::TooLarge(place(2, 2, 25)),
             ),
-            (
-                "999x",
-                Fault::NoNumber(Place {
-                    line: 1,
-                    start: 0,
-                    end: 4,
-                }),
-            ),
+            ("999x", Fault::NoNumber(place(1, 0, 4))),
         ];
         for (text, fault) in cases {
             assert_eq!(rt;

@@ -1,6 +1,5 @@
 -- What one call writes, and then another: the rows stand one behind the other.
-use Rattle.std.proofs.Common.{◌≡◌, ℕ, List, [], ◌++◌, sym, refl, ap, ◌∙◌, subst, append_assoc}
-use Rattle.std.proofs.lemmas.List.{append-nil}
+use Rattle.std.proofs.Common.{◌≡◌, ℕ, List, ◌++◌, ap, ◌∙◌, subst, append_assoc}
 use Rattle.tree.specs.Adds.{Adds}
 
 pub adds : (row before : List ℕ) {after : List ℕ} → after ≡ before ++ row → Adds row before after
@@ -15,13 +14,3 @@ adds_as {u = u} {v} e p = subst (λ r. Adds r u v) e p
 -- a loop that has `left` left to write of `row`, where u was there before it and v is there now
 pub record Writing (row left u v : List ℕ) : Type 0 where
   pub is : v ++ left ≡ u ++ row
-
-pub writing_all : {row u : List ℕ} → Writing row row u u
-writing_all = record { is = refl }
-
-module _ {row left u v : List ℕ} (k : Writing row left u v) where
-  pub writing_more : (r left' : List ℕ) {w : List ℕ} → left ≡ r ++ left' → Adds r v w → Writing row left' u w
-  writing_more r left' {w} e p = record { is = ap (λ x. x ++ left') p.is ∙ append_assoc v r left' ∙ ap (λ x. v ++ x) (sym e) ∙ k.is }
-
-  pub writing_none : left ≡ [] → Adds row u v
-  writing_none e = record { is = sym (append-nil v) ∙ ap (λ x. v ++ x) (sym e) ∙ k.is }

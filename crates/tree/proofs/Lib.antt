@@ -3,7 +3,5 @@ pub mod Truth
 pub mod Sizing
 pub mod Rest
 pub mod Fitting
-pub mod Operands
 pub mod Appending
 pub mod Wider
-pub mod Whole

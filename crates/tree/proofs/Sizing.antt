@@ -1,50 +1,47 @@
 -- How many bytes a tree takes: the lengths of its parts are added, and none is lost below a million.
-use Rattle.std.proofs.Common.{◌≡◌, ℕ, ◌+◌, ◌*◌, ◌≤◌, List, [], ◌++◌, length, Box, ap, ◌∙◌, arith, length-append}
-use Rattle.std.specs.declared.alloc.Global.{Global}
-use Rattle.program.specs.Program.{E}
-use Rattle.program.specs.Rows.{row_e}
-use Rattle.tree.specs.declared.programs.Expr.{Expr, Not, And, Or, Equal, Differ}
-use Rattle.tree.specs.Meaning.{or1, equal1, meaning_e}
+use Rattle.std.proofs.Common.{◌≡◌, ℕ, ◌+◌, ◌≤◌, List, [], ◌∷◌, map, fold, length, refl, arith, length-append}
+use Rattle.program.specs.Program.{E, yes, var, not1, and1}
+use Rattle.program.specs.Rows.{row_e, row_i, row_p, rows}
+use Rattle.tree.specs.declared.programs.Expr.{Expr}
+use Rattle.tree.specs.declared.programs.Statement.{Statement}
+use Rattle.tree.specs.declared.programs.Statement.TheVariants.{Skip, Goto, Branch, Assign, Open, Call, Return}
+use Rattle.tree.specs.declared.programs.Procedure.{Procedure}
+use Rattle.tree.specs.Meaning.{meaning_e, meaning_i, steps_from, meaning_p}
 use Rattle.tree.specs.Sizes.{counted}
 
 abbrev pub size_e : Expr → ℕ
 size_e e = length (row_e (meaning_e e))
 
-or_size : (a b : E) → length (row_e (or1 a b)) ≡ 4 + length (row_e a) + length (row_e b)
-or_size a b = simp length-append (omega arith)
+pub some_bytes : (e : E) → 1 ≤ length (row_e e)
+some_bytes yes = omega arith
+some_bytes (var x) = omega arith
+some_bytes (not1 e) = omega arith
+some_bytes (and1 e f) = omega arith
 
-equal_size : (a b : E) → length (row_e (equal1 a b)) ≡ 7 + 2 * (length (row_e a) + length (row_e b))
-equal_size a b = simp length-append (omega arith)
+-- a statement takes as many bytes at any place
+place_size : (k : ℕ) (s : Statement) → length (row_i (meaning_i k s)) ≡ length (row_i (meaning_i 0 s))
+place_size k Skip = refl
+place_size k (Goto t) = refl
+place_size k (Branch e t) = refl
+place_size k (Assign x e) = refl
+place_size k (Open x) = refl
+place_size k (Call f) = refl
+place_size k Return = refl
 
-pub size_not : {e : Expr} {l : Box Expr Global} → e ≡ Not l → size_e e ≡ 1 + size_e l.value
-size_not is = ap size_e is ∙ omega arith
+-- sizes that are added one by one, behind n bytes
+abbrev pub added : ℕ → List ℕ → ℕ
+added n sizes = fold (λ m k. counted (m + k)) n sizes
 
-module _ {e : Expr} {l r : Box Expr Global} where
-  pub size_and : e ≡ And l r → size_e e ≡ 1 + size_e l.value + size_e r.value
-  size_and is = ap size_e is ∙ simp length-append (omega arith)
+pub body_added : (k n : ℕ) (ss : List Statement) → n ≤ 1000000 → added n (map (λ s. counted (length (row_i (meaning_i 0 s)))) ss) ≡ counted (n + length (rows row_i (steps_from k ss)))
+body_added k n [] h = omega arith
+body_added k n (s ∷ ss) h =
+    let rest = body_added (k + 1) (counted (n + counted (length (row_i (meaning_i 0 s))))) ss (omega arith) in
+    let both = length-append (row_i (meaning_i k s)) (rows row_i (steps_from (k + 1) ss)) in
+    omega (arith, rest, both, place_size k s)
 
-  pub size_or : e ≡ Or l r → size_e e ≡ 4 + size_e l.value + size_e r.value
-  size_or is = ap size_e is ∙ or_size _ _
-
-  pub size_equal : e ≡ Equal l r → size_e e ≡ 7 + 2 * (size_e l.value + size_e r.value)
-  size_equal is = ap size_e is ∙ equal_size _ _
-
-  pub size_differ : e ≡ Differ l r → size_e e ≡ 8 + 2 * (size_e l.value + size_e r.value)
-  size_differ is = ap size_e is ∙ omega (arith, equal_size (meaning_e l.value) (meaning_e r.value))
-
--- a loop over rows that has counted so many bytes of `all`, and has `left` left
-pub record Counting (size : ℕ) (all left : List ℕ) : Type 0 where
-  pub small : size ≤ 1000000
-  pub is : counted (size + length left) ≡ counted (length all)
-
-pub counting_all : (all : List ℕ) → Counting 0 all all
-counting_all all = record { small = omega arith; is = omega arith }
-
-module _ {size : ℕ} {all left : List ℕ} (k : Counting size all left) where
-  pub counting_more : (row left' : List ℕ) {size' : ℕ} → left ≡ row ++ left' → size' ≡ counted (size + length row) → Counting size' all left'
-  counting_more row left' e s =
-      let long : length left ≡ length row + length left' = ap length e ∙ simp length-append in
-      record { small = omega arith; is = omega arith }
-
-  pub counting_none : left ≡ [] → size ≡ counted (length all)
-  counting_none e = omega (arith, ap length e)
+pub procedures_added : (n : ℕ) (ps : List Procedure) → n ≤ 1000000 → added n (map (λ p. counted (length (row_p (meaning_p p)))) ps) ≡ counted (n + length (rows row_p (map meaning_p ps)))
+procedures_added n [] h = omega arith
+procedures_added n (p ∷ ps) h =
+    let rest = procedures_added (counted (n + counted (length (row_p (meaning_p p))))) ps (omega arith) in
+    let both = length-append (row_p (meaning_p p)) (rows row_p (map meaning_p ps)) in
+    omega (arith, rest, both)

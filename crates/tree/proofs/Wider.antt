@@ -1,7 +1,11 @@
 -- What is within limits is within wider ones.
-use Rattle.std.proofs.Common.{ℕ, ◌≤◌, List, [], ◌∷◌, arith}
+use Rattle.std.proofs.Common.{◌≡◌, ℕ, ◌≤◌, List, [], ◌∷◌, map, vec_items, sym, subst, arith}
 use Rattle.program.specs.Program.{E, yes, var, not1, and1, I, set, open1, go, call, return, Proc}
 use Rattle.program.specs.Rows.{OkE, OkI, OkP, Every}
+use Rattle.tree.specs.declared.programs.Procedure.{Procedure}
+use Rattle.tree.specs.declared.programs.Tree.{Tree}
+use Rattle.tree.specs.Limits.{Kept}
+use Rattle.tree.specs.Meaning.{meaning_p, meaning}
 
 pub every_wider : {A : Type 0} {P Q : A → Type 0} → ((x : A) → P x → Q x) → (xs : List A) → Every P xs → Every Q xs
 every_wider f [] h = tt
@@ -30,3 +34,7 @@ ok_p_wider h g p ok = record {
 -- the steps of any procedure name numbers that a byte holds
 pub steps_small : (p : Proc) → OkP 6 64 p → Every (OkI 12 255 64) p.steps
 steps_small p ok = let few = ok.few in every_wider (ok_i_wider (omega arith) ok.short (omega arith)) p.steps ok.steps
+
+-- every number fits a byte
+pub kept_small : (t : Tree) {ps : List Procedure} → ps ≡ vec_items t.procedures → Kept (meaning t) → Every (OkP 6 64) (map meaning_p ps)
+kept_small t is k = subst (λ ps. Every (OkP 6 64) (map meaning_p ps)) (sym is) (every_wider (ok_p_wider k.few k.most) (meaning t).procs k.procs)

@@ -42,6 +42,8 @@ pub enum Fault {
     Memory,
 }
 
+// By hand, and twice, since what allocates fails in two ways: the `From` of a derive has no
+// `from_gives`, and `Refused` tells want of memory from the other faults.
 impl From<AllocError> for Fault {
     ghost from_gives = { λ _ r. r ≡ Memory };
 

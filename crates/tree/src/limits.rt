@@ -1,20 +1,16 @@
 // Whether a tree keeps the limits of programs, but for their length in bytes. Each function says
 // exactly whether what the tree means is in order, as `program` has it, and else the first fault.
-ghost use Rattle.std.specs.Prelude.{◌<◌, ◌≤◌, map, length, MatchResult};
+ghost use Rattle.std.specs.Prelude.{◌≡◌, ◌<◌, ◌≤◌, true, false, map, length, MatchResult};
 ghost use Rattle.program.specs.Rows.{OkE, OkP, Every};
 ghost use Rattle.tree.specs.Limits.{Tells, InScope, Kept};
 ghost use Rattle.tree.specs.Meaning.{meaning_e, meaning_i, steps_from, meaning_p, meaning};
 
 use crate::faults::{Fault, Position};
 use crate::programs::{Expr, PlaceNo, ProcNo, Procedure, Statement, Tree, VarNo};
-
-pub const MOST_VARIABLES: usize = 6; // shared, and as many of a procedure's own
+use program::procedures::MOST_VARIABLES; // shared, and as many of a procedure's own
+use program::programs::MOST_PROCEDURES;
 
 pub const MOST_STATEMENTS: usize = 255;
-
-pub const LEAST_PROCEDURES: usize = 1;
-
-pub const MOST_PROCEDURES: usize = 64;
 
 // What the statements of a procedure may name: variables below `vars`, places up to `statements`,
 // the one behind the last statement, and procedures below `procedures`.
@@ -25,78 +21,84 @@ pub struct Scope {
     pub procedures: usize,
 }
 
-// There are at most so many; else the fault.
-pub fn check_most(count: usize, most: usize, fault: Fault) -> Result<(), Fault>
-    ensures { MatchResult result (λ _. count ≤ most) (λ _. most < count) }
-{
-    if count <= most { Ok(()) } else { Err(fault) }
+// A statement's position, and what may be named there.
+#[derive(Clone, Copy)]
+struct Site {
+    at: Position,
+    scope: Scope,
 }
 
-fn check_variable(var: VarNo, scope: Scope, at: Position) -> Result<(), Fault>
-    ensures { MatchResult result (λ _. var.0 < scope.vars) (λ _. scope.vars ≤ var.0) }
+// That a limit is kept; else the fault.
+pub fn check(kept: bool, fault: Fault) -> Result<(), Fault>
+    ensures { MatchResult result (λ _. kept ≡ true) (λ _. kept ≡ false) }
 {
-    if var.0 < scope.vars {
-        Ok(())
-    } else {
-        Err(Fault::NoSuchVariable { at, var })
+    if kept { Ok(()) } else { Err(fault) }
+}
+
+impl Site {
+    fn check_variable(self, var: VarNo) -> Result<(), Fault>
+        ensures { MatchResult result (λ _. var.0 < self.scope.vars) (λ _. self.scope.vars ≤ var.0) }
+    {
+        let at = self.at;
+        check(var.0 < self.scope.vars, Fault::NoSuchVariable { at, var })
     }
-}
 
-fn check_place(place: PlaceNo, scope: Scope, at: Position) -> Result<(), Fault>
-    ensures { MatchResult result (λ _. place.0 ≤ scope.statements) (λ _. scope.statements < place.0) }
-{
-    if place.0 <= scope.statements {
-        Ok(())
-    } else {
-        Err(Fault::NoSuchPlace { at, place })
+    fn check_place(self, place: PlaceNo) -> Result<(), Fault>
+        ensures { MatchResult result (λ _. place.0 ≤ self.scope.statements) (λ _. self.scope.statements < place.0) }
+    {
+        let at = self.at;
+        check(
+            place.0 <= self.scope.statements,
+            Fault::NoSuchPlace { at, place },
+        )
     }
-}
 
-fn check_callee(callee: ProcNo, scope: Scope, at: Position) -> Result<(), Fault>
-    ensures { MatchResult result (λ _. callee.0 < scope.procedures) (λ _. scope.procedures ≤ callee.0) }
-{
-    if callee.0 < scope.procedures {
-        Ok(())
-    } else {
-        Err(Fault::NoSuchProcedure { at, callee })
+    fn check_callee(self, callee: ProcNo) -> Result<(), Fault>
+        ensures { MatchResult result (λ _. callee.0 < self.scope.procedures) (λ _. self.scope.procedures ≤ callee.0) }
+    {
+        let at = self.at;
+        check(
+            callee.0 < self.scope.procedures,
+            Fault::NoSuchProcedure { at, callee },
+        )
     }
-}
 
-fn check_expr(expr: &Expr, scope: Scope, at: Position) -> Result<(), Fault>
-    ensures { Tells (OkE scope.vars (meaning_e expr.now)) result }
-{
-    match expr {
-        Expr::Yes | Expr::No => Ok(()),
-        Expr::Var(var) => check_variable(*var, scope, at),
-        Expr::Not(operand) => check_expr(operand, scope, at),
-        Expr::And(left, right)
-        | Expr::Or(left, right)
-        | Expr::Equal(left, right)
-        | Expr::Differ(left, right) => {
-            check_expr(left, scope, at)?;
-            check_expr(right, scope, at)
+    fn check_expr(self, expr: &Expr) -> Result<(), Fault>
+        ensures { Tells (OkE self.scope.vars (meaning_e expr.now)) result }
+    {
+        match expr {
+            Expr::Yes | Expr::No => Ok(()),
+            Expr::Var(var) => self.check_variable(*var),
+            Expr::Not(operand) => self.check_expr(operand),
+            Expr::And(left, right)
+            | Expr::Or(left, right)
+            | Expr::Equal(left, right)
+            | Expr::Differ(left, right) => {
+                self.check_expr(left)?;
+                self.check_expr(right)
+            }
         }
     }
-}
 
-// A statement that stands within its procedure.
-fn check_statement(statement: &Statement, scope: Scope, at: Position) -> Result<(), Fault>
-    requires { at.place.0 < scope.statements }
-    ensures { Tells (InScope scope (meaning_i at.place.0 statement.now)) result }
-{
-    match statement {
-        Statement::Skip | Statement::Return => Ok(()),
-        Statement::Goto(place) => check_place(*place, scope, at),
-        Statement::Branch { cond, place } => {
-            check_place(*place, scope, at)?;
-            check_expr(cond, scope, at)
+    // A statement that stands within its procedure.
+    fn check_statement(self, statement: &Statement) -> Result<(), Fault>
+        requires { self.at.place.0 < self.scope.statements }
+        ensures { Tells (InScope self.scope (meaning_i self.at.place.0 statement.now)) result }
+    {
+        match statement {
+            Statement::Skip | Statement::Return => Ok(()),
+            Statement::Goto(place) => self.check_place(*place),
+            Statement::Branch { cond, place } => {
+                self.check_place(*place)?;
+                self.check_expr(cond)
+            }
+            Statement::Assign { var, value } => {
+                self.check_variable(*var)?;
+                self.check_expr(value)
+            }
+            Statement::Open(var) => self.check_variable(*var),
+            Statement::Call(callee) => self.check_callee(*callee),
         }
-        Statement::Assign { var, value } => {
-            check_variable(*var, scope, at)?;
-            check_expr(value, scope, at)
-        }
-        Statement::Open(var) => check_variable(*var, scope, at),
-        Statement::Call(callee) => check_callee(*callee, scope, at),
     }
 }
 
@@ -106,48 +108,43 @@ fn check_body(body: &[Statement], scope: Scope, procedure: ProcNo) -> Result<(),
 {
     for (i, statement) in body.iter().enumerate() {
         let place = PlaceNo(i);
-        check_statement(statement, scope, Position { procedure, place })?;
+        let at = Position { procedure, place };
+        Site { at, scope }.check_statement(statement)?;
     }
     Ok(())
 }
 
-// A procedure of a program with so many shared variables and so many procedures.
-fn check_procedure(
-    procedure: &Procedure,
-    shared: usize,
-    procedures: usize,
-    number: ProcNo,
-) -> Result<(), Fault>
-    requires { shared ≤ 6 }
-    ensures { Tells (OkP shared procedures (meaning_p procedure.now)) result }
+// A procedure of the tree.
+fn check_procedure(tree: &Tree, number: ProcNo, procedure: &Procedure) -> Result<(), Fault>
+    requires { tree.now.shared ≤ 6 }
+    ensures { Tells (OkP tree.now.shared (length tree.now.procedures.items) (meaning_p procedure.now)) result }
 {
     let own = procedure.own;
     let too_many_own = Fault::TooManyOwn {
         procedure: number,
         own,
     };
-    check_most(own, MOST_VARIABLES, too_many_own)?;
+    check(own <= MOST_VARIABLES, too_many_own)?;
     let statements = procedure.body.len();
     let too_many_statements = Fault::TooManyStatements {
         procedure: number,
         statements,
     };
-    check_most(statements, MOST_STATEMENTS, too_many_statements)?;
+    check(statements <= MOST_STATEMENTS, too_many_statements)?;
     let scope = Scope {
-        vars: shared + own,
+        vars: tree.shared + own,
         statements,
-        procedures,
+        procedures: tree.procedures.len(),
     };
     check_body(&procedure.body, scope, number)
 }
 
-// All procedures of a program with so many shared variables.
-fn check_procedures(procedures: &[Procedure], shared: usize) -> Result<(), Fault>
-    requires { shared ≤ 6 }
-    ensures { Tells (Every (OkP shared (length procedures.now)) (map meaning_p procedures.now)) result }
+fn check_procedures(tree: &Tree) -> Result<(), Fault>
+    requires { tree.now.shared ≤ 6 }
+    ensures { Tells (Every (OkP tree.now.shared (length tree.now.procedures.items)) (map meaning_p tree.now.procedures.items)) result }
 {
-    for (i, procedure) in procedures.iter().enumerate() {
-        check_procedure(procedure, shared, procedures.len(), ProcNo(i))?;
+    for (i, procedure) in tree.procedures.iter().enumerate() {
+        check_procedure(tree, ProcNo(i), procedure)?;
     }
     Ok(())
 }
@@ -157,11 +154,9 @@ pub fn check_tree(tree: &Tree) -> Result<(), Fault>
     ensures { Tells (Kept (meaning tree.now)) result }
 {
     let shared = tree.shared;
-    check_most(shared, MOST_VARIABLES, Fault::TooManyShared(shared))?;
+    check(shared <= MOST_VARIABLES, Fault::TooManyShared(shared))?;
+    check(!tree.procedures.is_empty(), Fault::NoProcedure)?;
     let count = tree.procedures.len();
-    if count < LEAST_PROCEDURES {
-        return Err(Fault::NoProcedure);
-    }
-    check_most(count, MOST_PROCEDURES, Fault::TooManyProcedures(count))?;
-    check_procedures(&tree.procedures, shared)
+    check(count <= MOST_PROCEDURES, Fault::TooManyProcedures(count))?;
+    check_procedures(tree)
 }

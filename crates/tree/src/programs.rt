@@ -1,5 +1,6 @@
 // The syntax tree: expressions with all operators, statements, procedures, programs. One statement is
-// one step. A tree may name what is not there and be of any size: encoding it tells.
+// one step. A tree may name what is not there and be of any size: encoding it tells. So its numbers are
+// types of their own beside those of `program`, each of which is a byte that was read.
 
 // A variable's number: the shared ones first, then the procedure's own.
 #[derive(Clone, Copy, PartialEq, Eq, Debug)]

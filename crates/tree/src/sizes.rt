@@ -1,6 +1,6 @@
 // How many bytes a tree takes, told before any is written: an operator can double its operands, so
 // that a small tree can take more bytes than there are. Numbers stop at COUNTED.
-ghost use Rattle.std.specs.Prelude.{◌≡◌, ℕ, map, length};
+ghost use Rattle.std.specs.Prelude.{◌≡◌, ℕ, ◌+◌, map, length};
 ghost use Rattle.program.specs.Rows.{row_e, row_i, row_p, rows};
 ghost use Rattle.tree.specs.Meaning.{meaning_e, meaning_i, steps_from, meaning_p, meaning};
 ghost use Rattle.tree.specs.Sizes.{counted, row};
@@ -26,6 +26,13 @@ fn expr_size(expr: &Expr) -> usize
     size.min(COUNTED)
 }
 
+// So many bytes and so many more.
+fn add(bytes: usize, more: usize) -> usize
+    ensures { result ≡ counted (bytes + more) }
+{
+    bytes.saturating_add(more).min(COUNTED)
+}
+
 // The bytes of a statement, at whatever place it stands.
 fn statement_size(statement: &Statement) -> usize
     ensures { (place : ℕ) → result ≡ counted (length (row_i (meaning_i place statement.now))) }
@@ -33,8 +40,8 @@ fn statement_size(statement: &Statement) -> usize
     match statement {
         Statement::Skip => 3,
         Statement::Goto(_) => 3,
-        Statement::Branch { cond, .. } => (2 + expr_size(cond)).min(COUNTED),
-        Statement::Assign { value, .. } => (2 + expr_size(value)).min(COUNTED),
+        Statement::Branch { cond, .. } => add(2, expr_size(cond)),
+        Statement::Assign { value, .. } => add(2, expr_size(value)),
         Statement::Open(_) => 2,
         Statement::Call(_) => 2,
         Statement::Return => 1,
@@ -44,26 +51,24 @@ fn statement_size(statement: &Statement) -> usize
 fn body_size(body: &[Statement]) -> usize
     ensures { result ≡ counted (length (rows row_i (steps_from 0 body.now))) }
 {
-    let mut size = 0;
-    for statement in body {
-        size = (size + statement_size(statement)).min(COUNTED);
-    }
-    size
+    body.iter().map(statement_size).fold(0, add)
+}
+
+fn procedure_size(procedure: &Procedure) -> usize
+    ensures { result ≡ counted (length (row_p (meaning_p procedure.now))) }
+{
+    add(2, body_size(&procedure.body))
 }
 
 fn procedures_size(procedures: &[Procedure]) -> usize
     ensures { result ≡ counted (length (rows row_p (map meaning_p procedures.now))) }
 {
-    let mut size = 0;
-    for procedure in procedures {
-        size = (size + 2 + body_size(&procedure.body)).min(COUNTED);
-    }
-    size
+    procedures.iter().map(procedure_size).fold(0, add)
 }
 
 // The bytes of a whole program.
 pub fn tree_size(tree: &Tree) -> usize
     ensures { result ≡ counted (length (row (meaning tree.now))) }
 {
-    (1 + procedures_size(&tree.procedures)).min(COUNTED)
+    add(1, procedures_size(&tree.procedures))
 }

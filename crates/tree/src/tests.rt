@@ -17,10 +17,8 @@ fn single(
     own: usize,
     statement: Statement,
 ) -> Result<Tree, AllocError> {
-    let mut body = Vec::new(heap);
-    body.push(statement)?;
-    let mut procedures = Vec::new(heap);
-    procedures.push(Procedure { own, body })?;
+    let body = vec![in heap; statement]?;
+    let procedures = vec![in heap; Procedure { own, body }]?;
     Ok(Tree { shared, procedures })
 }
 
@@ -64,25 +62,26 @@ fn operators(rt: HostRuntime) -> Result<(), Fail> {
 
 // Each statement once, in procedure 1, which procedure 0 calls.
 fn ring(heap: Global) -> Result<Tree, AllocError> {
-    let mut main = Vec::new(heap);
-    main.push(Statement::Call(ProcNo(1)))?;
-    let mut body = Vec::new(heap);
-    body.push(Statement::Open(VarNo(1)))?;
-    body.push(Statement::Branch {
-        cond: Expr::Var(VarNo(1)),
-        place: PlaceNo(3),
-    })?;
-    body.push(Statement::Call(ProcNo(1)))?;
-    body.push(Statement::Assign {
-        var: VarNo(0),
-        value: Expr::Not(var(heap, 0)?),
-    })?;
-    body.push(Statement::Skip)?;
-    body.push(Statement::Goto(PlaceNo(7)))?;
-    body.push(Statement::Return)?;
-    let mut procedures = Vec::new(heap);
-    procedures.push(Procedure { own: 0, body: main })?;
-    procedures.push(Procedure { own: 1, body })?;
+    let main = vec![in heap; Statement::Call(ProcNo(1))]?;
+    let body = vec![in heap;
+        Statement::Open(VarNo(1)),
+        Statement::Branch {
+            cond: Expr::Var(VarNo(1)),
+            place: PlaceNo(3),
+        },
+        Statement::Call(ProcNo(1)),
+        Statement::Assign {
+            var: VarNo(0),
+            value: Expr::Not(var(heap, 0)?),
+        },
+        Statement::Skip,
+        Statement::Goto(PlaceNo(7)),
+        Statement::Return,
+    ]?;
+    let procedures = vec![in heap;
+        Procedure { own: 0, body: main },
+        Procedure { own: 1, body },
+    ]?;
     Ok(Tree {
         shared: 1,
         procedures,
@@ -136,10 +135,7 @@ fn names(rt: HostRuntime) -> Result<(), Fail> {
 fn returning(heap: Global, lengths: &[usize]) -> Result<Tree, AllocError> {
     let mut procedures = Vec::new(heap);
     for length in lengths {
-        let mut body = Vec::new(heap);
-        for _ in 0..*length {
-            body.push(Statement::Return)?;
-        }
+        let body = (0..*length).map(|_| Statement::Return).collect(heap)?;
         procedures.push(Procedure { own: 0, body })?;
     }
     Ok(Tree {

@@ -2,59 +2,36 @@
 // it adds exactly the row of what its part of the tree means, as `program` has it. Where memory
 // fails, nothing is said of what was added.
 ghost use Rattle.std.specs.Prelude.{map, OnOk};
-ghost use Rattle.program.specs.Program.{and1};
 ghost use Rattle.program.specs.Rows.{row_e, row_i, row_p, rows, OkE, OkI, OkP, Every};
 ghost use Rattle.tree.specs.Adds.{Adds};
-ghost use Rattle.tree.specs.Meaning.{or1, equal1, meaning_e, meaning_i, steps_from, meaning_p};
+ghost use Rattle.tree.specs.Meaning.{equal1, meaning_e, meaning_i, steps_from, meaning_p};
 
 use crate::programs::{Expr, Procedure, Statement};
+use program::kinds::{ExpressionKind, StepKind};
 use std::alloc::AllocError;
 
-// The first bytes of expressions.
-const YES: u8 = 0;
+// The first bytes of expressions and steps, as `program` reads them.
+const YES: u8 = ExpressionKind::Yes as u8;
 
-const VAR: u8 = 1;
+const VAR: u8 = ExpressionKind::Var as u8;
 
-const NOT: u8 = 2;
+const NOT: u8 = ExpressionKind::Not as u8;
 
-const AND: u8 = 3;
+const AND: u8 = ExpressionKind::And as u8;
 
-// The first bytes of steps.
-const SET: u8 = 0;
+const SET: u8 = StepKind::Set as u8;
 
-const OPEN: u8 = 1;
+const OPEN: u8 = StepKind::Open as u8;
 
-const GO: u8 = 2;
+const GO: u8 = StepKind::Go as u8;
 
-const CALL: u8 = 3;
+const CALL: u8 = StepKind::Call as u8;
 
-const RETURN: u8 = 4;
-
-// Left and right.
-#[cycle(write_and_write_equal_write_expr_write_or)]
-fn write_and(out: &mut Vec<u8>, left: &Expr, right: &Expr) -> Result<(), AllocError>
-    requires { (OkE 12 (meaning_e left.now)) × (OkE 12 (meaning_e right.now)) }
-    ensures { OnOk result (Adds (row_e (and1 (meaning_e left.now) (meaning_e right.now))) out.old.items out.new.items) }
-{
-    out.push(AND)?;
-    write_expr(out, left)?;
-    write_expr(out, right)
-}
-
-// Left or right.
-#[cycle(write_and_write_equal_write_expr_write_or)]
-fn write_or(out: &mut Vec<u8>, left: &Expr, right: &Expr) -> Result<(), AllocError>
-    requires { (OkE 12 (meaning_e left.now)) × (OkE 12 (meaning_e right.now)) }
-    ensures { OnOk result (Adds (row_e (or1 (meaning_e left.now) (meaning_e right.now))) out.old.items out.new.items) }
-{
-    out.extend_from_slice(&[NOT, AND, NOT])?; // not (not left and not right)
-    write_expr(out, left)?;
-    out.push(NOT)?;
-    write_expr(out, right)
-}
+const RETURN: u8 = StepKind::Return as u8;
 
 // Left equals right.
-#[cycle(write_and_write_equal_write_expr_write_or)]
+#[tactic(auto, using(crate::proofs::Sizing::some_bytes))]
+#[cycle(write_equal_write_expr)]
 fn write_equal(out: &mut Vec<u8>, left: &Expr, right: &Expr) -> Result<(), AllocError>
     requires { (OkE 12 (meaning_e left.now)) × (OkE 12 (meaning_e right.now)) }
     ensures { OnOk result (Adds (row_e (equal1 (meaning_e left.now) (meaning_e right.now))) out.old.items out.new.items) }
@@ -68,7 +45,7 @@ fn write_equal(out: &mut Vec<u8>, left: &Expr, right: &Expr) -> Result<(), Alloc
     write_expr(out, right)
 }
 
-#[cycle(write_and_write_equal_write_expr_write_or)]
+#[cycle(write_equal_write_expr)]
 fn write_expr(out: &mut Vec<u8>, expr: &Expr) -> Result<(), AllocError>
     requires { OkE 12 (meaning_e expr.now) }
     ensures { OnOk result (Adds (row_e (meaning_e expr.now)) out.old.items out.new.items) }
@@ -81,8 +58,17 @@ fn write_expr(out: &mut Vec<u8>, expr: &Expr) -> Result<(), AllocError>
             out.push(NOT)?;
             write_expr(out, operand)?;
         }
-        Expr::And(left, right) => write_and(out, left, right)?,
-        Expr::Or(left, right) => write_or(out, left, right)?,
+        Expr::And(left, right) => {
+            out.push(AND)?;
+            write_expr(out, left)?;
+            write_expr(out, right)?;
+        }
+        Expr::Or(left, right) => {
+            out.extend_from_slice(&[NOT, AND, NOT])?; // not (not left and not right)
+            write_expr(out, left)?;
+            out.push(NOT)?;
+            write_expr(out, right)?;
+        }
         Expr::Equal(left, right) => write_equal(out, left, right)?,
         Expr::Differ(left, right) => {
             out.push(NOT)?;

@@ -1,20 +1,22 @@
-use Rattle.std.proofs.Common.{◌≤◌, arith}
-use Rattle.std.proofs.ByRecursion.{All-more}
-use Rattle.syntax.proofs.Values.{value_more, no_digit, too_large, number_is}
+use Rattle.std.proofs.Common.{◌≡◌, ◌<◌, ◌≤◌, ◌+◌, ◌-◌, ◌*◌, min, MatchResult, ◌∙◌, arith, rules, tests}
+use Rattle.std.proofs.lemmas.Bool.{MatchBool-at_true, MatchBool-at_false}
+use Rattle.std.proofs.lemmas.Iterator.{YieldsList-from_slice, cases_from_all}
+use Rattle.std.proofs.lemmas.Iterator.Consumers.{fold_from_yields_List}
+use Rattle.std.proofs.lemmas.Result.{MatchResult-weaker}
+use Rattle.syntax.proofs.Values.{Digit, no_digit, too_large, number_is}
 use Rattle.syntax.proofs.decimal.number.Goals as goal
 
-pub returns-then-not-is_ascii_digit : goal.returns-then-not-is_ascii_digit
-returns-then-not-is_ascii_digit c = no_digit c.args.word.now c.loop-b.b-index c.loop-b-test.true (λ low high. omega (arith, c.if-not-is_ascii_digit.ensures.cases))
-
-pub loop-b-preserved : goal.loop-b-preserved
-loop-b-preserved c =
-    let digit = c.if-not-is_ascii_digit.ensures.cases in
-    let more = value_more c.args.word.now c.loop-b.b-index c.loop-b-test.true in
-    let before = c.loop-b.invariant.1 in
-    (All-more (λ b. (48 ≤ b) × (b ≤ 57)) c.args.word.now c.loop-b.b-index 0 c.loop-b-test.true c.loop-b.invariant.0 (omega arith, omega arith), omega arith)
-
-pub returns-then-value-gt255 : goal.returns-then-value-gt255
-returns-then-value-gt255 c = too_large c.args.word.now c.loop-b.b-index c.loop-b.value c.loop-b-test.false c.loop-b.invariant.1 c.if-value-gt255.true
+pub returns-then-not-all : goal.returns-then-not-all
+returns-then-not-all c =
+    let digits = cases_from_all _ _ _ Digit (λ b. Digit b → ⊥) c.all.ensures.ran (YieldsList-from_slice c.args.word.now (cc)) (λ x q k. search (rules, tests)) (λ x q k. search (rules, tests)) in
+    let bad = MatchBool-at_false _ _ c.if-not-all.true digits in
+    no_digit c.args.word.now bad.0 bad.1 bad.2
 
 pub returns : goal.returns
-returns c = number_is c.args.word.now c.loop-b.b-index c.loop-b.value c.loop-b-test.false c.loop-b.invariant.0 c.loop-b.invariant.1 c.if-value-gt255.false
+returns c =
+    let w = c.args.word.now in
+    let digits = cases_from_all _ _ _ Digit (λ b. Digit b → ⊥) c.all.ensures.ran (YieldsList-from_slice w (cc)) (λ x q k. search (rules, tests)) (λ x q k. search (rules, tests)) in
+    let all = MatchBool-at_true _ _ c.if-not-all.false digits in
+    let value = fold_from_yields_List _ (λ v b. min (10 * v + (b - 48)) 4294967295) 0 c.fold-value.result c.fold-value.ensures.ran (YieldsList-from_slice w (cc)) (λ a x b q k. search (rules, tests)) in
+    let fits : MatchResult c.map_err.result (λ n. (n ≡ c.fold-value.result) × (c.fold-value.result < 256)) (λ _. 256 ≤ c.fold-value.result) = search rules in
+    MatchResult-weaker c.map_err.result fits (λ n k. let small = k.1 in number_is w n all (k.0 ∙ value) (omega (arith, k.0))) (λ _ k. too_large w _ value k)

@@ -1,21 +1,13 @@
-use Rattle.std.proofs.Common.{ap, arith}
-use Rattle.program.specs.Rows.{row_i, rows}
+use Rattle.std.proofs.Common.{◌+◌, length, rules, tests, arith}
+use Rattle.std.proofs.lemmas.Iterator.{YieldsList-from_slice, YieldsList-from_map}
+use Rattle.std.proofs.lemmas.Iterator.Consumers.{YieldsList-at, fold_from_yields_List}
+use Rattle.program.specs.Rows.{row_i}
 use Rattle.tree.specs.Meaning.{meaning_i}
-use Rattle.tree.proofs.Rest.{rest_i_more, rest_i_none}
-use Rattle.tree.proofs.Sizing.{counting_all, counting_more, counting_none}
+use Rattle.tree.specs.Sizes.{counted}
+use Rattle.tree.proofs.Sizing.{body_added}
 use Rattle.tree.proofs.sizes.body_size.Goals as goal
 
-pub overflow_add-size : goal.overflow_add-size
-overflow_add-size c = let small = c.loop-statement.invariant.small in omega (arith, c.statement_size.ensures 0)
-
-pub loop-statement-init : goal.loop-statement-init
-loop-statement-init c = counting_all _
-
-pub loop-statement-preserved : goal.loop-statement-preserved
-loop-statement-preserved c =
-    let i = c.loop-statement.statement-index in
-    let more = rest_i_more c.args.body.now i c.statement-item.result c.loop-statement-test.true c.statement-item.is in
-    counting_more c.loop-statement.invariant (row_i (meaning_i i c.statement-item.result)) _ (ap (rows row_i) more) (omega (arith, c.statement_size.ensures i))
-
 pub returns : goal.returns
-returns c = counting_none c.loop-statement.invariant (ap (rows row_i) (rest_i_none c.args.body.now _ c.loop-statement-test.false))
+returns c =
+    let total = fold_from_yields_List _ (λ m n. counted (m + n)) 0 c.fold.result c.fold.ensures.ran (YieldsList-from_map _ (λ s. counted (length (row_i (meaning_i 0 s)))) (YieldsList-at c.map.ensures.source (YieldsList-from_slice c.args.body.now cc)) c.map.ensures.closure (λ x r q k. search (rules, tests))) (λ a x b q k. search (rules, tests)) in
+    omega (arith, total, body_added 0 0 c.args.body.now (omega arith))

@@ -1,19 +1,13 @@
-use Rattle.std.proofs.Common.{length, ap, arith}
-use Rattle.program.specs.Rows.{row_i, row_p, rows}
-use Rattle.tree.specs.Meaning.{steps_from, meaning_p}
-use Rattle.tree.proofs.Rest.{rest_p_more, rest_p_none}
-use Rattle.tree.proofs.Sizing.{counting_all, counting_more, counting_none}
+use Rattle.std.proofs.Common.{◌+◌, length, rules, tests, arith}
+use Rattle.std.proofs.lemmas.Iterator.{YieldsList-from_slice, YieldsList-from_map}
+use Rattle.std.proofs.lemmas.Iterator.Consumers.{YieldsList-at, fold_from_yields_List}
+use Rattle.program.specs.Rows.{row_p}
+use Rattle.tree.specs.Meaning.{meaning_p}
+use Rattle.tree.specs.Sizes.{counted}
+use Rattle.tree.proofs.Sizing.{procedures_added}
 use Rattle.tree.proofs.sizes.procedures_size.Goals as goal
 
-pub loop-procedure-init : goal.loop-procedure-init
-loop-procedure-init c = counting_all _
-
-pub loop-procedure-preserved : goal.loop-procedure-preserved
-loop-procedure-preserved c =
-    let i = c.loop-procedure.procedure-index in
-    let more = rest_p_more c.args.procedures.now i c.procedure-item.result c.loop-procedure-test.true c.procedure-item.is in
-    let body = ap (λ ss. length (rows row_i (steps_from 0 ss))) c.deref.ensures.value in
-    counting_more c.loop-procedure.invariant (row_p (meaning_p c.procedure-item.result)) _ (ap (rows row_p) more) (omega arith)
-
 pub returns : goal.returns
-returns c = counting_none c.loop-procedure.invariant (ap (rows row_p) (rest_p_none c.args.procedures.now _ c.loop-procedure-test.false))
+returns c =
+    let total = fold_from_yields_List _ (λ m n. counted (m + n)) 0 c.fold.result c.fold.ensures.ran (YieldsList-from_map _ (λ p. counted (length (row_p (meaning_p p)))) (YieldsList-at c.map.ensures.source (YieldsList-from_slice c.args.procedures.now cc)) c.map.ensures.closure (λ x r q k. search (rules, tests))) (λ a x b q k. search (rules, tests)) in
+    omega (arith, total, procedures_added 0 c.args.procedures.now (omega arith))
