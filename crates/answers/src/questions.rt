@@ -80,9 +80,10 @@ fn find_place(heap: Global, procedure: &ProcedureNames, word: &str) -> Result<us
         }
         return Ok(place);
     }
-    match find(&procedure.labels, word.as_bytes()) {
-        Some(number) => Ok(procedure.labels[number].place),
-        None if procedure.labels.len() == 0 => {
+    let labels = procedure.labels.as_slice();
+    match find(labels, word.as_bytes()) {
+        Some(number) => Ok(labels[number].place),
+        None if labels.is_empty() => {
             Err(Complaint::new(format!(in heap;
                 "Procedure {name} has no label \"{shown}\"; it has none, so name a place by its number."
             )))

@@ -4,6 +4,7 @@
 // reading bytes.
 ghost use Rattle.std.specs.Prelude.{◌≤◌, length, IfOk};
 
+use program::kinds::ExpressionKind;
 use program::procedures::Procedure;
 use program::programs::{Header, read};
 use program::steps::{Found, PlaceNo, Step, VarNo};
@@ -30,10 +31,13 @@ enum Jump {
 
 // How a step is written that goes from `place` to `target` if `row` holds.
 fn written_as(place: u8, target: PlaceNo, row: &[u8]) -> Jump {
-    match row {
-        [0] if usize::from(target.0) == usize::from(place) + 1 => Jump::Skip,
-        [0] => Jump::Goto,
-        _ => Jump::Branch,
+    let always = [u8::from(ExpressionKind::Yes)];
+    if row != always.as_slice() {
+        Jump::Branch
+    } else if usize::from(target.0) == usize::from(place) + 1 {
+        Jump::Skip
+    } else {
+        Jump::Goto
     }
 }
 
@@ -97,33 +101,39 @@ impl Printer<'_> {
     fn expr<'r>(&mut self, row: &'r [u8], parens: bool) -> Result<&'r [u8], AllocError>
         ensures { IfOk result (λ rest. length rest.now ≤ length row.now) }
     {
-        match row {
-            [] => Ok(row),
-            [0, rest @ ..] => {
+        let Some((first, behind)) = row.split_first() else {
+            return Ok(row);
+        };
+        match ExpressionKind::try_from(*first) {
+            Ok(ExpressionKind::Yes) => {
                 self.word("1")?;
-                Ok(rest)
+                Ok(behind)
             }
-            [1, var, rest @ ..] => {
+            Ok(ExpressionKind::Var) => {
+                let Some((var, behind)) = behind.split_first() else {
+                    return Ok(behind);
+                };
                 let variable = self.variable(VarNo(*var));
                 write!(self.out, "{variable}")?;
-                Ok(rest)
+                Ok(behind)
             }
-            [2, rest @ ..] => {
+            Ok(ExpressionKind::Not) => {
                 self.word("!")?;
-                self.expr(rest, true)
+                self.expr(behind, true)
             }
-            [_, left @ ..] => {
+            Ok(ExpressionKind::And) => {
                 if parens {
                     self.word("(")?;
                 }
-                let right = self.expr(left, false)?;
+                let right = self.expr(behind, false)?;
                 self.word(" & ")?;
-                let rest = self.expr(right, true)?;
+                let behind = self.expr(right, true)?;
                 if parens {
                     self.word(")")?;
                 }
-                Ok(rest)
+                Ok(behind)
             }
+            Err(_) => Ok(behind),
         }
     }
 

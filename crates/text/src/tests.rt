@@ -365,3 +365,31 @@ end
     );
     Ok(())
 }
+
+// How many bytes the text has of `s0 := e`, where `e` is `operator` so many times, then `1` so many.
+fn printed_length(
+    heap: Global,
+    operator: u8,
+    operators: usize,
+    operands: usize,
+) -> Result<usize, AllocError> {
+    let mut bytes = [1, 0, 1, 0, 0].to_vec(heap)?;
+    for _ in 0..operators {
+        bytes.push(operator)?;
+    }
+    for _ in 0..operands {
+        bytes.push(0)?;
+    }
+    Ok(print(heap, &bytes)?.map_or(0, |text| text.len()))
+}
+
+// As deep as the bytes of a program allow.
+#[test]
+fn deep(rt: HostRuntime) -> Result<(), Fail> {
+    let around = "decl s0;\n\nvoid p0() begin\n    s0 := ;\nend\n".len();
+    let nots = printed_length(rt.alloc(), 2, 8186, 1)?;
+    assert_eq!(rt; nots, around + 8186 + 1);
+    let ands = printed_length(rt.alloc(), 3, 4093, 4094)?;
+    assert_eq!(rt; ands, around + 4093 * 3 + 4094);
+    Ok(())
+}

@@ -6,4 +6,4 @@ invariant-loop-lines l = (vec_len l.lines ≡ vec_len l.statements) × (vec_len 
 
 -- each round adds a statement
 abbrev pub decreases-loop-lines : goal.decreases-loop-lines
-decreases-loop-lines l = 255 - vec_len l.statements
+decreases-loop-lines l = 256 - vec_len l.statements
