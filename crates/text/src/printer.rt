@@ -2,8 +2,6 @@
 // a label L3 at place 3 where some step goes there. Parsed and encoded, the text gives the bytes again
 // (this is tested), unless its parentheses nest deeper than the parser allows. Relies on `program` for
 // reading bytes.
-ghost use Rattle.std.specs.Prelude.{◌≤◌, length, IfOk};
-
 use program::kinds::ExpressionKind;
 use program::procedures::Procedure;
 use program::programs::{Header, read};
@@ -11,6 +9,16 @@ use program::steps::{Found, PlaceNo, Step, VarNo};
 use program::walks::{Procedures, Steps};
 use std::alloc::{AllocError, Global};
 use std::fmt;
+
+// An operator that waits for an operand: the one of `!`, the left one of `&`, or the right one, with
+// whether it stands in parentheses. These are kept in a Vec, since a function that calls itself for each
+// operand was tried, and runs out of stack at the deepest programs where it is not optimized.
+#[derive(Clone, Copy)]
+enum Waiting {
+    Not,
+    Left { parens: bool },
+    Right { parens: bool },
+}
 
 // The bytes of the expression that a step has, or none.
 fn expr_row(bytes: &[u8], found: Found) -> &[u8] {
@@ -63,6 +71,7 @@ impl fmt::Display for Variable {
 // A text that grows, of the program that was read from `bytes`.
 #[derive(Drop)]
 struct Printer<'b> {
+    heap: Global,
     bytes: &'b [u8],
     header: Header,
     out: String,
@@ -96,45 +105,55 @@ impl Printer<'_> {
         labelled
     }
 
-    // The expression that `row` begins with, in parentheses if it is an `&` and they are wanted. Gives
-    // back what stands behind it.
-    fn expr<'r>(&mut self, row: &'r [u8], parens: bool) -> Result<&'r [u8], AllocError>
-        ensures { IfOk result (λ rest. length rest.now ≤ length row.now) }
-    {
-        let Some((first, behind)) = row.split_first() else {
-            return Ok(row);
-        };
-        match ExpressionKind::try_from(*first) {
-            Ok(ExpressionKind::Yes) => {
-                self.word("1")?;
-                Ok(behind)
-            }
-            Ok(ExpressionKind::Var) => {
-                let Some((var, behind)) = behind.split_first() else {
-                    return Ok(behind);
-                };
-                let variable = self.variable(VarNo(*var));
-                write!(self.out, "{variable}")?;
-                Ok(behind)
-            }
-            Ok(ExpressionKind::Not) => {
-                self.word("!")?;
-                self.expr(behind, true)
-            }
-            Ok(ExpressionKind::And) => {
-                if parens {
-                    self.word("(")?;
+    // Goes on behind a whole operand: closes what it ends, up to an `&` that waits for its right one.
+    fn close(&mut self, waiting: &mut Vec<Waiting>) -> Result<(), AllocError> {
+        while let Some(operator) = waiting.pop() {
+            match operator {
+                Waiting::Not => {}
+                Waiting::Left { parens } => {
+                    waiting.push(Waiting::Right { parens })?;
+                    return self.word(" & ");
                 }
-                let right = self.expr(behind, false)?;
-                self.word(" & ")?;
-                let behind = self.expr(right, true)?;
-                if parens {
-                    self.word(")")?;
-                }
-                Ok(behind)
+                Waiting::Right { parens: true } => self.word(")")?,
+                Waiting::Right { parens: false } => {}
             }
-            Err(_) => Ok(behind),
         }
+        Ok(())
+    }
+
+    // The expression that `row` is.
+    fn expr(&mut self, row: &[u8]) -> Result<(), AllocError> {
+        let mut waiting = Vec::new(self.heap);
+        let mut bytes = row.iter();
+        while let Some(first) = bytes.next() {
+            match ExpressionKind::try_from(*first) {
+                Ok(ExpressionKind::Yes) => {
+                    self.word("1")?;
+                    self.close(&mut waiting)?;
+                }
+                Ok(ExpressionKind::Var) => {
+                    let variable = self.variable(VarNo(bytes.next().copied().unwrap_or(0)));
+                    write!(self.out, "{variable}")?;
+                    self.close(&mut waiting)?;
+                }
+                Ok(ExpressionKind::Not) => {
+                    self.word("!")?;
+                    waiting.push(Waiting::Not)?;
+                }
+                Ok(ExpressionKind::And) => {
+                    let parens = matches!(
+                        waiting.last(),
+                        Some(Waiting::Not) | Some(Waiting::Right { .. })
+                    );
+                    if parens {
+                        self.word("(")?;
+                    }
+                    waiting.push(Waiting::Left { parens })?;
+                }
+                Err(_) => {}
+            }
+        }
+        Ok(())
     }
 
     // The step at `place`.
@@ -144,8 +163,7 @@ impl Printer<'_> {
             Step::Set { var, .. } => {
                 let variable = self.variable(var);
                 write!(self.out, "{variable} := ")?;
-                self.expr(row, false)?;
-                Ok(())
+                self.expr(row)
             }
             Step::Open(var) => {
                 let variable = self.variable(var);
@@ -158,7 +176,7 @@ impl Printer<'_> {
                     Jump::Goto => write!(self.out, "goto L{number}"),
                     Jump::Branch => {
                         self.word("if (")?;
-                        self.expr(row, false)?;
+                        self.expr(row)?;
                         write!(self.out, ") goto L{number}")
                     }
                 }
@@ -218,6 +236,7 @@ pub fn print(heap: Global, bytes: &[u8]) -> Result<Option<String>, AllocError> {
         return Ok(None);
     };
     let mut printer = Printer {
+        heap,
         bytes,
         header,
         out: String::new(heap),
