@@ -1,7 +1,8 @@
 // A place among the tokens of a text, from which they are taken one by one. Behind them stands that of
 // the text's end, however far one goes. Relies on `tokens`, `names`, `nearest` and `diagnostics`.
-ghost use Rattle.std.specs.Prelude.{◌<◌, ◌≤◌, length, IsErr, IsSome, IsTrue, OnOk};
+ghost use Rattle.std.specs.Prelude.{◌<◌, length, IsErr, IsSome, IsTrue, OnOk};
 ghost use Rattle.std.specs.Iterator.{IsFinite};
+ghost use Rattle.text.specs.Cursor.{GoesOn, GoesPast};
 
 use crate::diagnostics::{Expected, Stop, Thing, Wrong};
 use crate::names::Named;
@@ -49,7 +50,7 @@ impl<'t, 'k> Cursor<'t, 'k> {
     }
 
     pub fn advance(&mut self)
-        ensures { length self.new.rest.now ≤ length self.old.rest.now }
+        ensures { GoesOn self.old self.new }
     {
         if let Some((_, rest)) = self.rest.split_first() {
             self.rest = rest;
@@ -58,8 +59,8 @@ impl<'t, 'k> Cursor<'t, 'k> {
 
     // Goes on behind the token here if it is of this kind.
     pub fn take(&mut self, kind: Kind) -> Option<Token>
-        ensures on { length self.new.rest.now ≤ length self.old.rest.now }
-        ensures past { IsSome result → length self.new.rest.now < length self.old.rest.now }
+        ensures on { GoesOn self.old self.new }
+        ensures past { IsSome result → GoesPast self.old self.new }
     {
         let (first, rest) = self.rest.split_first()?;
         if first.kind != kind {
@@ -71,16 +72,16 @@ impl<'t, 'k> Cursor<'t, 'k> {
 
     // Whether the token here is of this kind; goes on behind it if so.
     pub fn accept(&mut self, kind: Kind) -> bool
-        ensures on { length self.new.rest.now ≤ length self.old.rest.now }
-        ensures past { IsTrue result → length self.new.rest.now < length self.old.rest.now }
+        ensures on { GoesOn self.old self.new }
+        ensures past { IsTrue result → GoesPast self.old self.new }
     {
         self.take(kind).is_some()
     }
 
     // The token here, which is to be of this kind.
     pub fn expect(&mut self, kind: Kind, expected: Expected) -> Result<Token, Stop>
-        ensures on { length self.new.rest.now ≤ length self.old.rest.now }
-        ensures past { OnOk result (length self.new.rest.now < length self.old.rest.now) }
+        ensures on { GoesOn self.old self.new }
+        ensures past { OnOk result (GoesPast self.old self.new) }
     {
         match self.take(kind) {
             Some(token) => Ok(token),

@@ -1,5 +1,6 @@
 // Declarations of variables, the shared ones and those of a procedure. Relies on `cursor` and `names`.
-ghost use Rattle.std.specs.Prelude.{◌≡◌, ◌≤◌, length};
+ghost use Rattle.std.specs.Prelude.{◌≡◌};
+ghost use Rattle.text.specs.Cursor.{GoesOn};
 
 use crate::cursor::Cursor;
 use crate::diagnostics::{Expected, Level, Stop, Thing, Wrong};
@@ -49,7 +50,7 @@ impl<'t, 'k, 'o> Declarations<'t, 'k, 'o> {
 
     // Adds the names behind a `decl`, up to its `;`.
     fn read_list(&mut self) -> Result<(), Stop>
-        ensures { length self.new.cursor.rest.now ≤ length self.old.cursor.rest.now }
+        ensures { GoesOn self.old.cursor self.new.cursor }
     {
         loop {
             let token = self.cursor.expect(Kind::Name, Expected::VariableName)?;

@@ -1,7 +1,8 @@
 // Expressions of a text. From the tightest: `!`, then `=` and `!=`, which do not chain, then `&`, then
 // `|`. Each function reads one level, and calls the next tighter one; parentheses nest at most
 // MOST_DEPTH deep, which bounds the stack. Relies on `reader`.
-ghost use Rattle.std.specs.Prelude.{◌<◌, ◌≤◌, length, IfOk, IsTrue};
+ghost use Rattle.std.specs.Prelude.{IfOk, IsTrue};
+ghost use Rattle.text.specs.Cursor.{GoesOn, GoesPast};
 
 use crate::diagnostics::{Expected, Stop, Wrong};
 use crate::reader::Reader;
@@ -50,8 +51,8 @@ fn negated(heap: Global, count: usize, expr: Expr) -> Result<Expr, AllocError> {
 impl Reader<'_, '_, '_> {
     // Whether an operator of this kind stands here; goes on behind it if so.
     fn accept_operator(&mut self, kind: Kind) -> Result<bool, Stop>
-        ensures on { length self.new.cursor.rest.now ≤ length self.old.cursor.rest.now }
-        ensures past { IfOk result (λ found. IsTrue found → length self.new.cursor.rest.now < length self.old.cursor.rest.now) }
+        ensures on { GoesOn self.old.cursor self.new.cursor }
+        ensures past { IfOk result (λ found. IsTrue found → GoesPast self.old.cursor self.new.cursor) }
     {
         let Some(token) = self.cursor.take(kind) else {
             return Ok(false);
@@ -65,7 +66,7 @@ impl Reader<'_, '_, '_> {
 
     // Goes past `!`s, and counts them.
     fn negations(&mut self) -> Result<usize, Stop>
-        ensures { length self.new.cursor.rest.now ≤ length self.old.cursor.rest.now }
+        ensures { GoesOn self.old.cursor self.new.cursor }
     {
         let mut count: usize = 0;
         while self.accept_operator(Kind::Not)? {
@@ -77,7 +78,7 @@ impl Reader<'_, '_, '_> {
     // A name, 0, 1, or an expression in parentheses, of which `depth` more may nest.
     #[cycle(expressions)]
     fn primary(&mut self, depth: usize) -> Result<Expr, Stop>
-        ensures { length self.new.cursor.rest.now ≤ length self.old.cursor.rest.now }
+        ensures { GoesOn self.old.cursor self.new.cursor }
     {
         let token = self.cursor.peek();
         match token.kind {
@@ -110,7 +111,7 @@ impl Reader<'_, '_, '_> {
 
     #[cycle(expressions)]
     fn operand(&mut self, depth: usize) -> Result<Expr, Stop>
-        ensures { length self.new.cursor.rest.now ≤ length self.old.cursor.rest.now }
+        ensures { GoesOn self.old.cursor self.new.cursor }
     {
         let count = self.negations()?;
         let expr = self.primary(depth)?;
@@ -119,7 +120,7 @@ impl Reader<'_, '_, '_> {
 
     #[cycle(expressions)]
     fn comparison(&mut self, depth: usize) -> Result<Expr, Stop>
-        ensures { length self.new.cursor.rest.now ≤ length self.old.cursor.rest.now }
+        ensures { GoesOn self.old.cursor self.new.cursor }
     {
         let heap = self.cursor.heap;
         let left = self.operand(depth)?;
@@ -144,7 +145,7 @@ impl Reader<'_, '_, '_> {
     // What stands between two of these operators.
     #[cycle(expressions)]
     fn part(&mut self, operator: Operator, depth: usize) -> Result<Expr, Stop>
-        ensures { length self.new.cursor.rest.now ≤ length self.old.cursor.rest.now }
+        ensures { GoesOn self.old.cursor self.new.cursor }
     {
         match operator {
             Operator::Or => self.chain(Operator::And, depth),
@@ -155,7 +156,7 @@ impl Reader<'_, '_, '_> {
     // Parts with these operators between, of which the left ones bind first.
     #[cycle(expressions)]
     fn chain(&mut self, operator: Operator, depth: usize) -> Result<Expr, Stop>
-        ensures { length self.new.cursor.rest.now ≤ length self.old.cursor.rest.now }
+        ensures { GoesOn self.old.cursor self.new.cursor }
     {
         let heap = self.cursor.heap;
         let mut whole = self.part(operator, depth)?;

@@ -81,6 +81,7 @@ pub fn lex(heap: Global, text: &[u8]) -> Result<Vec<Token>, AllocError>
     let mut at = 0;
     let mut line = 1;
     let mut line_start = 0;
+    // By an index, which tokens and columns are made of: an iterator would count the same beside itself.
     while let Some(first) = text.get(at) {
         let column = at - line_start + 1;
         match first {

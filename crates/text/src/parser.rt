@@ -23,7 +23,8 @@ pub struct Source {
     pub names: Names,
 }
 
-// Why there is none: what is wrong, in the order of the text, or that memory is short.
+// Why there is none: what is wrong, in the order of the text, or that memory is short. One generic enum
+// for this and `Stop` is no plainer: it would call the errors of a text and one of them alike.
 #[derive(Drop)]
 pub enum Failure {
     Errors(Vec<Diagnostic>),
