@@ -1,4 +1,5 @@
-use Rattle.std.proofs.Common.{◌+◌, ◌*◌, ◌≤◌, ℕ, length}
+use Rattle.std.proofs.Common.{◌+◌, ◌*◌, ℕ, length}
+use Rattle.text.specs.Cursor.{GoesOn}
 use Rattle.text.specs.declared.expressions.Operator.{Operator}
 use Rattle.text.specs.declared.expressions.Operator.TheVariants.{And, Or}
 use Rattle.text.proofs.reader.Reader.+expressions.Given as goal
@@ -25,8 +26,7 @@ abbrev pub decreases-primary : goal.decreases-primary
 decreases-primary l = 7 * l.depth
 
 abbrev pub invariant-chain-loop-whole : goal.invariant-chain-loop-whole
-invariant-chain-loop-whole l =
-    length l.self.cursor.rest.now ≤ length l.fn.self.cursor.rest.now
+invariant-chain-loop-whole l = GoesOn l.fn.self.cursor l.self.cursor
 
 abbrev pub decreases-chain-loop-whole : goal.decreases-chain-loop-whole
 decreases-chain-loop-whole l = length l.self.cursor.rest.now
