@@ -6,7 +6,7 @@ use report::complaints::Complaint;
 use report::refused::Word;
 use std::alloc::Global;
 use std::fmt;
-use text::names::{Names, ProcedureNames, find_label, find_name};
+use text::names::{Names, ProcedureNames, find};
 
 // Names, one behind another, with commas between.
 #[derive(Drop)]
@@ -59,10 +59,8 @@ fn variable_names(
 
 // The number of the procedure with this name.
 pub fn find_procedure(heap: Global, names: &Names, word: &str) -> Result<usize, Complaint> {
-    for (i, procedure) in names.procedures.iter().enumerate() {
-        if procedure.name.as_str() == word {
-            return Ok(i);
-        }
+    if let Some(number) = find(&names.procedures, word.as_bytes()) {
+        return Ok(number);
     }
     let shown = Word(word.as_bytes());
     let all = procedure_names(heap, names)?;
@@ -82,9 +80,10 @@ fn find_place(heap: Global, procedure: &ProcedureNames, word: &str) -> Result<us
         }
         return Ok(place);
     }
-    match find_label(procedure.labels.as_slice(), word.as_bytes()) {
-        Some(label) => Ok(label.place),
-        None if procedure.labels.len() == 0 => {
+    let labels = procedure.labels.as_slice();
+    match find(labels, word.as_bytes()) {
+        Some(number) => Ok(labels[number].place),
+        None if labels.is_empty() => {
             Err(Complaint::new(format!(in heap;
                 "Procedure {name} has no label \"{shown}\"; it has none, so name a place by its number."
             )))
@@ -105,10 +104,10 @@ fn find_variable(
     procedure: &ProcedureNames,
     word: &str,
 ) -> Result<usize, Complaint> {
-    if let Some(shared) = find_name(names.shared.as_slice(), word.as_bytes()) {
+    if let Some(shared) = find(&names.shared, word.as_bytes()) {
         return Ok(shared);
     }
-    if let Some(own) = find_name(procedure.own.as_slice(), word.as_bytes()) {
+    if let Some(own) = find(&procedure.own, word.as_bytes()) {
         return Ok(names.shared.len().saturating_add(own));
     }
     let name = procedure.name.as_str();

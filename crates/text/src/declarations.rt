@@ -1,96 +1,101 @@
 // Declarations of variables, the shared ones and those of a procedure. Relies on `cursor` and `names`.
+ghost use Rattle.std.specs.Prelude.{◌≡◌};
+ghost use Rattle.text.specs.Cursor.{GoesOn};
+
 use crate::cursor::Cursor;
-use crate::diagnostics::{Expected, Stop, Thing, Wrong};
-use crate::names::find_name;
+use crate::diagnostics::{Expected, Level, Stop, Thing, Wrong};
+use crate::names::find;
 use crate::tokens::{Kind, Token};
+use program::procedures::MOST_VARIABLES;
 use std::alloc::AllocError;
 
-const MOST_VARIABLES: usize = 6;
-
-// Where variables are declared: before the procedures, or in one.
-#[derive(Clone, Copy)]
-pub enum Level {
-    Shared,
-    Own,
+// Declarations that are being read: the names so far, and those outside, of which they may have none.
+#[derive(Drop)]
+pub struct Declarations<'t, 'k, 'o> {
+    pub cursor: Cursor<'t, 'k>,
+    pub names: Vec<String>,
+    pub outer: &'o [String],
+    pub level: Level,
 }
 
-// Adds the name `token` to `names`. None of `outer` may have it either.
-fn declare(
-    cursor: &Cursor,
-    names: &mut Vec<String>,
-    outer: &[String],
-    level: Level,
-    token: Token,
-) -> Result<(), Stop> {
-    let word = token.word(cursor.text);
-    if find_name(outer, word).is_some() || find_name(names, word).is_some() {
-        let name = String::from_utf8_lossy(cursor.heap, word)?;
-        let thing = Thing::Variable;
-        return Err(Stop::new(token.spot, Wrong::Taken { thing, name }));
-    }
-    if names.len() >= MOST_VARIABLES {
-        let wrong = match level {
-            Level::Shared => Wrong::TooManyShared,
-            Level::Own => Wrong::TooManyOwn,
-        };
-        return Err(Stop::new(token.spot, wrong));
-    }
-    names.push(String::from_utf8_lossy(cursor.heap, word)?)?;
-    Ok(())
-}
-
-// Adds the names behind a `decl`, up to its `;`.
-fn declare_list(
-    cursor: &mut Cursor,
-    names: &mut Vec<String>,
-    outer: &[String],
-    level: Level,
-) -> Result<(), Stop> {
-    for _ in 0..cursor.tokens.len() {
-        let token = cursor.expect(Kind::Name, Expected::VariableName)?;
-        declare(cursor, names, outer, level, token)?;
-        if cursor.accept(Kind::Semicolon) {
-            return Ok(());
+impl<'t, 'k, 'o> Declarations<'t, 'k, 'o> {
+    pub fn new(
+        cursor: Cursor<'t, 'k>,
+        outer: &'o [String],
+        level: Level,
+    ) -> Declarations<'t, 'k, 'o> {
+        Declarations {
+            cursor,
+            names: Vec::new(cursor.heap),
+            outer,
+            level,
         }
-        cursor.expect(Kind::Comma, Expected::CommaOrSemicolon)?;
     }
-    Err(cursor.unexpected(Expected::VariableName)?)
-}
 
-// Adds the names of all `decl`s that stand here.
-pub fn declarations(
-    cursor: &mut Cursor,
-    names: &mut Vec<String>,
-    outer: &[String],
-    level: Level,
-) -> Result<(), Stop> {
-    for _ in 0..cursor.tokens.len() {
-        if !cursor.accept(Kind::Decl) {
-            break;
+    // Adds the name `token`.
+    fn declare(&mut self, token: Token) -> Result<(), Stop>
+        ensures { self.new.cursor ≡ self.old.cursor }
+    {
+        let word = self.cursor.word(token);
+        if find(self.outer, word).is_some() || find(&self.names, word).is_some() {
+            return self.cursor.taken(Thing::Variable, token);
         }
-        declare_list(cursor, names, outer, level)?;
+        if self.names.len() >= MOST_VARIABLES {
+            let wrong = Wrong::TooManyVariables(self.level);
+            return Err(Stop::new(token.spot, wrong));
+        }
+        self.names.push(self.cursor.name(token)?)?;
+        Ok(())
     }
-    Ok(())
-}
 
-// Adds what could be meant as names behind an error in the shared declarations, however many, so that
-// their use is not reported too. Goes to the first procedure.
-pub fn guess_rest(cursor: &mut Cursor, names: &mut Vec<String>) -> Result<(), AllocError> {
-    let mut listing = true;
-    for _ in 0..cursor.tokens.len() {
-        let token = cursor.peek();
-        let word = token.word(cursor.text);
-        match token.kind {
-            Kind::Void | Kind::Begin | Kind::Finish => break,
-            Kind::Decl => listing = true,
-            Kind::Semicolon | Kind::Opening => listing = false,
-            Kind::Name if listing && find_name(names, word).is_none() => {
-                names.push(String::from_utf8_lossy(cursor.heap, word)?)?;
+    // Adds the names behind a `decl`, up to its `;`.
+    fn read_list(&mut self) -> Result<(), Stop>
+        ensures { GoesOn self.old.cursor self.new.cursor }
+    {
+        loop {
+            let token = self.cursor.expect(Kind::Name, Expected::VariableName)?;
+            self.declare(token)?;
+            if self.cursor.accept(Kind::Semicolon) {
+                return Ok(());
             }
-            _ => {}
+            self.cursor.expect(Kind::Comma, Expected::CommaOrSemicolon)?;
         }
-        cursor.advance();
     }
-    cursor.skip_to_procedure();
-    Ok(())
+
+    // Adds the names of all `decl`s that stand here.
+    pub fn read(&mut self) -> Result<(), Stop> {
+        while self.cursor.accept(Kind::Decl) {
+            self.read_list()?;
+        }
+        Ok(())
+    }
+
+    // Adds what could be meant as names in a list, of which `tokens` are what is left.
+    fn guess_list(&mut self, tokens: &[Token]) -> Result<(), AllocError> {
+        for token in tokens {
+            if matches!(token.kind, Kind::Semicolon | Kind::Opening) {
+                break;
+            }
+            if token.kind == Kind::Name && find(&self.names, self.cursor.word(*token)).is_none() {
+                self.names.push(self.cursor.name(*token)?)?;
+            }
+        }
+        Ok(())
+    }
+
+    // Adds what could be meant as names behind an error, however many, so that their use is not
+    // reported too. Goes to the first procedure.
+    pub fn guess_rest(&mut self) -> Result<(), AllocError> {
+        let head = self
+            .cursor
+            .rest
+            .split(|token| matches!(token.kind, Kind::Void | Kind::Begin))
+            .next()
+            .unwrap_or(&[]);
+        for list in head.split(|token| token.kind == Kind::Decl) {
+            self.guess_list(list)?;
+        }
+        self.cursor.skip_to_procedure();
+        Ok(())
+    }
 }

@@ -1,9 +1,13 @@
 // What is wrong with a text, and where. Each is shown as one sentence without the file's name. Relies
-// on `tokens` for positions.
+// on `tokens` for positions, and on `program` for limits.
 ghost use Rattle.std.specs.Prelude.{◌≡◌};
 ghost use Rattle.text.specs.declared.diagnostics.Stop.TheVariants.{Memory};
 
+use crate::expressions::{MOST_DEPTH, MOST_OPERATORS};
+use crate::procedures::MOST_STATEMENTS;
 use crate::tokens::Spot;
+use program::procedures::MOST_VARIABLES;
+use program::programs::MOST_PROCEDURES;
 use std::alloc::{AllocError, AllocFailed};
 use std::fmt;
 
@@ -69,6 +73,13 @@ impl fmt::Display for Thing {
     }
 }
 
+// Where variables are declared: before the procedures, or in one.
+#[derive(Clone, Copy, PartialEq, Eq, Debug)]
+pub enum Level {
+    Shared,
+    Own,
+}
+
 #[derive(Drop)]
 pub enum Wrong {
     Found {
@@ -94,8 +105,7 @@ pub enum Wrong {
         name: String,
         nearest: Option<String>,
     },
-    TooManyShared,
-    TooManyOwn,
+    TooManyVariables(Level),
     TooManyProcedures,
     TooManyStatements,
     NoProcedure,
@@ -110,8 +120,11 @@ impl fmt::Display for Wrong {
             Wrong::Chained => f.write_str(
                 "\"=\" and \"!=\" do not chain: put one of them in parentheses",
             ),
-            Wrong::TooDeep => f.write_str("parentheses may stand at most 200 deep"),
-            Wrong::TooLong => f.write_str("an expression may have at most 8192 operators"),
+            Wrong::TooDeep => write!(f, "parentheses may stand at most {MOST_DEPTH} deep"),
+            Wrong::TooLong => write!(
+                f,
+                "an expression may have at most {MOST_OPERATORS} operators"
+            ),
             Wrong::Taken { thing, name } => write!(f, "there is a {thing} \"{name}\" already"),
             Wrong::Unknown {
                 thing,
@@ -124,10 +137,23 @@ impl fmt::Display for Wrong {
                     None => Ok(()),
                 }
             }
-            Wrong::TooManyShared => f.write_str("there may be at most 6 shared variables"),
-            Wrong::TooManyOwn => f.write_str("a procedure may have at most 6 variables of its own"),
-            Wrong::TooManyProcedures => f.write_str("there may be at most 64 procedures"),
-            Wrong::TooManyStatements => f.write_str("a procedure may have at most 255 statements"),
+            Wrong::TooManyVariables(Level::Shared) => {
+                write!(f, "there may be at most {MOST_VARIABLES} shared variables")
+            }
+            Wrong::TooManyVariables(Level::Own) => {
+                write!(
+                    f,
+                    "a procedure may have at most {MOST_VARIABLES} variables of its own"
+                )
+            }
+            Wrong::TooManyProcedures => write!(
+                f,
+                "there may be at most {MOST_PROCEDURES} procedures"
+            ),
+            Wrong::TooManyStatements => write!(
+                f,
+                "a procedure may have at most {MOST_STATEMENTS} statements"
+            ),
             Wrong::NoProcedure => f.write_str("there is no procedure"),
         }
     }

@@ -1,51 +1,42 @@
 // Expressions of a text. From the tightest: `!`, then `=` and `!=`, which do not chain, then `&`, then
 // `|`. Each function reads one level, and calls the next tighter one; parentheses nest at most
-// MOST_DEPTH deep, which bounds the stack. Relies on `cursor` and `names`.
-use crate::cursor::Cursor;
+// MOST_DEPTH deep, which bounds the stack. Relies on `reader`.
+ghost use Rattle.std.specs.Prelude.{IfOk, IsTrue};
+ghost use Rattle.text.specs.Cursor.{GoesOn, GoesPast};
+
 use crate::diagnostics::{Expected, Stop, Wrong};
-use crate::names::{Scope, find_name, unknown_variable};
-use crate::tokens::{Kind, Token};
+use crate::reader::Reader;
+use crate::tokens::Kind;
+use program::programs::MOST_BYTES;
 use std::alloc::{AllocError, Global};
-use tree::programs::{Expr, VarNo};
+use tree::programs::Expr;
 
 pub const MOST_DEPTH: usize = 200;
 
 // Each operator takes a byte at least, so that a program has no expression with more.
-const MOST_OPERATORS: usize = 8192;
+pub const MOST_OPERATORS: usize = MOST_BYTES;
 
-// The variable that `token` names: the shared ones come first.
-pub fn variable(cursor: &Cursor, scope: &Scope, token: Token) -> Result<VarNo, Stop> {
-    let word = token.word(cursor.text);
-    if let Some(i) = find_name(scope.shared, word) {
-        return Ok(VarNo(i));
-    }
-    if let Some(i) = find_name(scope.own, word) {
-        return Ok(VarNo(i.saturating_add(scope.shared.len())));
-    }
-    Err(unknown_variable(cursor.heap, scope, token, word)?)
+// An operator that chains.
+#[derive(Clone, Copy)]
+enum Operator {
+    And,
+    Or,
 }
 
-// Goes past an operator.
-fn take_operator(cursor: &mut Cursor) -> Result<(), Stop> {
-    if cursor.operators >= MOST_OPERATORS {
-        return Err(Stop::new(cursor.peek().spot, Wrong::TooLong));
-    }
-    cursor.operators = cursor.operators.saturating_add(1);
-    cursor.advance();
-    Ok(())
-}
-
-// Goes past `!`s, and counts them.
-fn negations(cursor: &mut Cursor) -> Result<usize, Stop> {
-    let mut count: usize = 0;
-    for _ in 0..cursor.tokens.len() {
-        if cursor.peek().kind != Kind::Not {
-            break;
+impl Operator {
+    fn kind(self) -> Kind {
+        match self {
+            Operator::And => Kind::And,
+            Operator::Or => Kind::Or,
         }
-        take_operator(cursor)?;
-        count = count.saturating_add(1);
     }
-    Ok(count)
+
+    fn join(self, left: Box<Expr>, right: Box<Expr>) -> Expr {
+        match self {
+            Operator::And => Expr::And(left, right),
+            Operator::Or => Expr::Or(left, right),
+        }
+    }
 }
 
 // `count` times not `expr`.
@@ -57,97 +48,128 @@ fn negated(heap: Global, count: usize, expr: Expr) -> Result<Expr, AllocError> {
     Ok(whole)
 }
 
-// A name, 0, 1, or an expression in parentheses, of which `depth` more may nest.
-#[cycle(comparison_conjunction_disjunction_operand_primary)]
-fn primary(cursor: &mut Cursor, scope: &Scope, depth: usize) -> Result<Expr, Stop> {
-    let token = cursor.peek();
-    match token.kind {
-        Kind::Zero => {
-            cursor.advance();
-            Ok(Expr::No)
+impl Reader<'_, '_, '_> {
+    // Whether an operator of this kind stands here; goes on behind it if so.
+    fn accept_operator(&mut self, kind: Kind) -> Result<bool, Stop>
+        ensures on { GoesOn self.old.cursor self.new.cursor }
+        ensures past { IfOk result (λ found. IsTrue found → GoesPast self.old.cursor self.new.cursor) }
+    {
+        let Some(token) = self.cursor.take(kind) else {
+            return Ok(false);
+        };
+        if self.operators >= MOST_OPERATORS {
+            return Err(Stop::new(token.spot, Wrong::TooLong));
         }
-        Kind::One => {
-            cursor.advance();
-            Ok(Expr::Yes)
+        self.operators += 1;
+        Ok(true)
+    }
+
+    // Goes past `!`s, and counts them.
+    fn negations(&mut self) -> Result<usize, Stop>
+        ensures { GoesOn self.old.cursor self.new.cursor }
+    {
+        let mut count: usize = 0;
+        while self.accept_operator(Kind::Not)? {
+            count = count.saturating_add(1);
         }
-        Kind::Name => {
-            let var = variable(cursor, scope, token)?;
-            cursor.advance();
-            Ok(Expr::Var(var))
-        }
-        Kind::Opening => {
-            if depth == 0 {
-                return Err(Stop::new(token.spot, Wrong::TooDeep));
+        Ok(count)
+    }
+
+    // A name, 0, 1, or an expression in parentheses, of which `depth` more may nest.
+    #[cycle(expressions)]
+    fn primary(&mut self, depth: usize) -> Result<Expr, Stop>
+        ensures { GoesOn self.old.cursor self.new.cursor }
+    {
+        let token = self.cursor.peek();
+        match token.kind {
+            Kind::Zero => {
+                self.cursor.advance();
+                Ok(Expr::No)
             }
-            cursor.advance();
-            let inner = disjunction(cursor, scope, depth - 1)?;
-            cursor.expect(Kind::Closing, Expected::OperatorOrClosing)?;
-            Ok(inner)
+            Kind::One => {
+                self.cursor.advance();
+                Ok(Expr::Yes)
+            }
+            Kind::Name => {
+                let var = self.variable(token)?;
+                self.cursor.advance();
+                Ok(Expr::Var(var))
+            }
+            Kind::Opening => {
+                if depth == 0 {
+                    return Err(Stop::new(token.spot, Wrong::TooDeep));
+                }
+                self.cursor.advance();
+                let inner = self.chain(Operator::Or, depth - 1)?;
+                self.cursor
+                    .expect(Kind::Closing, Expected::OperatorOrClosing)?;
+                Ok(inner)
+            }
+            _ => self.cursor.unexpected(Expected::Operand),
         }
-        _ => Err(cursor.unexpected(Expected::Operand)?),
     }
-}
 
-#[cycle(comparison_conjunction_disjunction_operand_primary)]
-fn operand(cursor: &mut Cursor, scope: &Scope, depth: usize) -> Result<Expr, Stop> {
-    let count = negations(cursor)?;
-    let expr = primary(cursor, scope, depth)?;
-    Ok(negated(cursor.heap, count, expr)?)
-}
-
-#[cycle(comparison_conjunction_disjunction_operand_primary)]
-fn comparison(cursor: &mut Cursor, scope: &Scope, depth: usize) -> Result<Expr, Stop> {
-    let heap = cursor.heap;
-    let left = operand(cursor, scope, depth)?;
-    let kind = cursor.peek().kind;
-    if !matches!(kind, Kind::Equal | Kind::Differ) {
-        return Ok(left);
+    #[cycle(expressions)]
+    fn operand(&mut self, depth: usize) -> Result<Expr, Stop>
+        ensures { GoesOn self.old.cursor self.new.cursor }
+    {
+        let count = self.negations()?;
+        let expr = self.primary(depth)?;
+        Ok(negated(self.cursor.heap, count, expr)?)
     }
-    take_operator(cursor)?;
-    let right = operand(cursor, scope, depth)?;
-    if matches!(cursor.peek().kind, Kind::Equal | Kind::Differ) {
-        return Err(Stop::new(cursor.peek().spot, Wrong::Chained));
-    }
-    let left = Box::new(heap, left)?;
-    let right = Box::new(heap, right)?;
-    Ok(match kind {
-        Kind::Equal => Expr::Equal(left, right),
-        _ => Expr::Differ(left, right),
-    })
-}
 
-#[cycle(comparison_conjunction_disjunction_operand_primary)]
-fn conjunction(cursor: &mut Cursor, scope: &Scope, depth: usize) -> Result<Expr, Stop> {
-    let heap = cursor.heap;
-    let mut whole = comparison(cursor, scope, depth)?;
-    for _ in 0..cursor.tokens.len() {
-        if cursor.peek().kind != Kind::And {
-            break;
+    #[cycle(expressions)]
+    fn comparison(&mut self, depth: usize) -> Result<Expr, Stop>
+        ensures { GoesOn self.old.cursor self.new.cursor }
+    {
+        let heap = self.cursor.heap;
+        let left = self.operand(depth)?;
+        let equal = self.accept_operator(Kind::Equal)?;
+        if !equal && !self.accept_operator(Kind::Differ)? {
+            return Ok(left);
         }
-        take_operator(cursor)?;
-        let right = comparison(cursor, scope, depth)?;
-        whole = Expr::And(Box::new(heap, whole)?, Box::new(heap, right)?);
-    }
-    Ok(whole)
-}
-
-#[cycle(comparison_conjunction_disjunction_operand_primary)]
-fn disjunction(cursor: &mut Cursor, scope: &Scope, depth: usize) -> Result<Expr, Stop> {
-    let heap = cursor.heap;
-    let mut whole = conjunction(cursor, scope, depth)?;
-    for _ in 0..cursor.tokens.len() {
-        if cursor.peek().kind != Kind::Or {
-            break;
+        let right = self.operand(depth)?;
+        let next = self.cursor.peek();
+        if matches!(next.kind, Kind::Equal | Kind::Differ) {
+            return Err(Stop::new(next.spot, Wrong::Chained));
         }
-        take_operator(cursor)?;
-        let right = conjunction(cursor, scope, depth)?;
-        whole = Expr::Or(Box::new(heap, whole)?, Box::new(heap, right)?);
+        let left = Box::new(heap, left)?;
+        let right = Box::new(heap, right)?;
+        Ok(if equal {
+            Expr::Equal(left, right)
+        } else {
+            Expr::Differ(left, right)
+        })
     }
-    Ok(whole)
-}
 
-// The expression that begins here.
-pub fn expression(cursor: &mut Cursor, scope: &Scope) -> Result<Expr, Stop> {
-    cursor.operators = 0;
-    disjunction(cursor, scope, MOST_DEPTH)
+    // What stands between two of these operators.
+    #[cycle(expressions)]
+    fn part(&mut self, operator: Operator, depth: usize) -> Result<Expr, Stop>
+        ensures { GoesOn self.old.cursor self.new.cursor }
+    {
+        match operator {
+            Operator::Or => self.chain(Operator::And, depth),
+            Operator::And => self.comparison(depth),
+        }
+    }
+
+    // Parts with these operators between, of which the left ones bind first.
+    #[cycle(expressions)]
+    fn chain(&mut self, operator: Operator, depth: usize) -> Result<Expr, Stop>
+        ensures { GoesOn self.old.cursor self.new.cursor }
+    {
+        let heap = self.cursor.heap;
+        let mut whole = self.part(operator, depth)?;
+        while self.accept_operator(operator.kind())? {
+            let right = self.part(operator, depth)?;
+            whole = operator.join(Box::new(heap, whole)?, Box::new(heap, right)?);
+        }
+        Ok(whole)
+    }
+
+    // The expression that begins here.
+    pub fn expression(&mut self) -> Result<Expr, Stop> {
+        self.operators = 0;
+        self.chain(Operator::Or, MOST_DEPTH)
+    }
 }

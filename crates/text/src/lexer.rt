@@ -5,38 +5,22 @@ ghost use Rattle.std.specs.Prelude.{◌+◌, ◌<◌, ◌≤◌, length, IfOk, v
 use crate::tokens::{Kind, Spot, Token};
 use std::alloc::{AllocError, Global};
 
-fn is_blank(b: u8) -> bool {
-    matches!(b, b' ' | b'\t' | b'\r')
-}
-
 fn begins_word(b: u8) -> bool {
     b.is_ascii_alphanumeric() || b == b'_'
 }
 
-// Where the line ends that `start` stands in.
-fn line_end(text: &[u8], start: usize) -> usize
-    requires { start < length text.now }
+// Where what begins at `start` ends: at the first byte behind that which is no part of it.
+fn end_of<F: Fn(u8) -> bool>(text: &[u8], start: usize, is_part: F) -> usize
+    requires callable { F.IsAlwaysCallable is_part }
+    requires inside { start < length text.now }
     ensures past { start < result }
     ensures within { result ≤ length text.now }
 {
-    let mut end = start + 1;
-    while end < text.len() && text[end] != b'\n' {
-        end += 1;
+    let behind = start + 1;
+    match text[behind..].iter().position(|b| !is_part(*b)) {
+        Some(more) => behind + more,
+        None => text.len(),
     }
-    end
-}
-
-// Where the word ends that begins at `start`.
-fn word_end(text: &[u8], start: usize) -> usize
-    requires { start < length text.now }
-    ensures past { start < result }
-    ensures within { result ≤ length text.now }
-{
-    let mut end = start + 1;
-    while end < text.len() && begins_word(text[end]) {
-        end += 1;
-    }
-    end
 }
 
 fn word_kind(word: &[u8]) -> Kind {
@@ -78,26 +62,15 @@ fn token_at(text: &[u8], at: usize) -> (Kind, usize)
     ensures past { at < result.1 }
     ensures within { result.1 ≤ length text.now }
 {
-    let first = text[at];
-    if begins_word(first) {
-        let end = word_end(text, at);
-        return (word_kind(&text[at..end]), end);
-    }
-    if at + 1 < text.len() && text[at + 1] == b'=' {
-        if first == b':' {
-            return (Kind::Becomes, at + 2);
+    match &text[at..] {
+        [b':', b'=', ..] => (Kind::Becomes, at + 2),
+        [b'!', b'=', ..] => (Kind::Differ, at + 2),
+        [first, ..] if begins_word(*first) => {
+            let end = end_of(text, at, begins_word);
+            (word_kind(&text[at..end]), end)
         }
-        if first == b'!' {
-            return (Kind::Differ, at + 2);
-        }
+        _ => (symbol_kind(text[at]), at + 1),
     }
-    (symbol_kind(first), at + 1)
-}
-
-fn begins_comment(text: &[u8], at: usize) -> bool
-    requires { at < length text.now }
-{
-    text[at] == b'/' && at + 1 < text.len() && text[at + 1] == b'/'
 }
 
 // The tokens of `text`; the last is behind all others.
@@ -108,27 +81,28 @@ pub fn lex(heap: Global, text: &[u8]) -> Result<Vec<Token>, AllocError>
     let mut at = 0;
     let mut line = 1;
     let mut line_start = 0;
-    while at < text.len() {
-        if text[at] == b'\n' {
-            at += 1;
-            line += 1;
-            line_start = at;
-        } else if is_blank(text[at]) {
-            at += 1;
-        } else if begins_comment(text, at) {
-            at = line_end(text, at);
-        } else {
-            let column = at - line_start + 1;
-            let spot = Spot { line, column };
-            let (kind, end) = token_at(text, at);
-            let start = at;
-            tokens.push(Token {
-                kind,
-                spot,
-                start,
-                end,
-            })?;
-            at = end;
+    // By an index, which tokens and columns are made of: an iterator would count the same beside itself.
+    while let Some(first) = text.get(at) {
+        let column = at - line_start + 1;
+        match first {
+            b'\n' => {
+                at += 1;
+                line += 1;
+                line_start = at;
+            }
+            b' ' | b'\t' | b'\r' => at += 1,
+            b'/' if text[at..].starts_with(b"//") => at = end_of(text, at, |b| b != b'\n'),
+            _ => {
+                let (kind, end) = token_at(text, at);
+                let start = at;
+                tokens.push(Token {
+                    kind,
+                    spot: Spot { line, column },
+                    start,
+                    end,
+                })?;
+                at = end;
+            }
         }
     }
     let column = at - line_start + 1;

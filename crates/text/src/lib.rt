@@ -13,6 +13,9 @@ mod nearest;
 pub mod parser;
 pub mod printer;
 mod procedures;
+mod reader;
 pub mod refusals;
 mod statements;
+#[cfg(test)]
+mod tests;
 pub mod tokens;

@@ -1,9 +1,26 @@
 // The names of a text: those of the program that it is, and those that a statement may use. Relies on
-// `tree` for the numbers that stand for names there, and on `nearest`.
-use crate::diagnostics::{Stop, Thing, Wrong};
-use crate::nearest::Nearest;
-use crate::tokens::{Kind, Spot, Token};
-use std::alloc::{AllocError, Global};
+// `tokens` for where they stand.
+ghost use Rattle.std.specs.Prelude.{◌≡◌, List, ℕ, position, string_bytes};
+ghost use Rattle.std.specs.Str.{bytes_eq};
+
+use crate::tokens::Spot;
+
+// What has a name.
+pub trait Named {
+    // The bytes of the name.
+    ghost named: { Self → List ℕ };
+
+    fn name(&self) -> &str
+        ensures { result.now ≡ named self.now };
+}
+
+impl Named for String {
+    ghost named = { λ s. string_bytes s };
+
+    fn name(&self) -> &str {
+        self.as_str()
+    }
+}
 
 // The names of a program: those of its shared variables and of its procedures.
 #[derive(Drop)]
@@ -23,6 +40,14 @@ pub struct ProcedureNames {
     pub lines: Vec<usize>,
 }
 
+impl Named for ProcedureNames {
+    ghost named = { λ s. string_bytes s.name };
+
+    fn name(&self) -> &str {
+        self.name.as_str()
+    }
+}
+
 // A label: its name, the number of statements before it, and where it stands.
 #[derive(Drop)]
 pub struct Label {
@@ -31,11 +56,27 @@ pub struct Label {
     pub spot: Spot,
 }
 
+impl Named for Label {
+    ghost named = { λ s. string_bytes s.name };
+
+    fn name(&self) -> &str {
+        self.name.as_str()
+    }
+}
+
 // A procedure's name, and where it stands.
 #[derive(Drop)]
 pub struct Heading {
     pub name: String,
     pub spot: Spot,
+}
+
+impl Named for Heading {
+    ghost named = { λ s. string_bytes s.name };
+
+    fn name(&self) -> &str {
+        self.name.as_str()
+    }
 }
 
 // What the statements of a procedure may name: what all procedures may, and what only it may.
@@ -47,130 +88,9 @@ pub struct Scope<'a, 'p> {
     pub labels: &'p [Label],
 }
 
-// The number of the first of `names` that is `word`.
-pub fn find_name(names: &[String], word: &[u8]) -> Option<usize> {
-    for (i, name) in names.iter().enumerate() {
-        if name.as_bytes() == word {
-            return Some(i);
-        }
-    }
-    None
-}
-
-// The first of `labels` that is named `word`.
-pub fn find_label<'a>(labels: &'a [Label], word: &[u8]) -> Option<&'a Label> {
-    for label in labels {
-        if label.name.as_bytes() == word {
-            return Some(label);
-        }
-    }
-    None
-}
-
-// The number of the first of `headings` that names `word`.
-pub fn find_heading(headings: &[Heading], word: &[u8]) -> Option<usize> {
-    for (i, heading) in headings.iter().enumerate() {
-        if heading.name.as_bytes() == word {
-            return Some(i);
-        }
-    }
-    None
-}
-
-// That nothing has the name `word`.
-fn unknown(
-    heap: Global,
-    thing: Thing,
-    token: Token,
-    word: &[u8],
-    nearest: Option<String>,
-) -> Result<Stop, AllocError> {
-    let name = String::from_utf8_lossy(heap, word)?;
-    Ok(Stop::new(
-        token.spot,
-        Wrong::Unknown {
-            thing,
-            name,
-            nearest,
-        },
-    ))
-}
-
-pub fn unknown_variable(
-    heap: Global,
-    scope: &Scope,
-    token: Token,
-    word: &[u8],
-) -> Result<Stop, AllocError> {
-    let mut nearest = Nearest::new(heap, word);
-    for name in scope.shared.iter().chain(scope.own.iter()) {
-        nearest.offer(name.as_str())?;
-    }
-    unknown(heap, Thing::Variable, token, word, nearest.name)
-}
-
-pub fn unknown_label(
-    heap: Global,
-    labels: &[Label],
-    token: Token,
-    word: &[u8],
-) -> Result<Stop, AllocError> {
-    let mut nearest = Nearest::new(heap, word);
-    for label in labels {
-        nearest.offer(label.name.as_str())?;
-    }
-    unknown(heap, Thing::Label, token, word, nearest.name)
-}
-
-pub fn unknown_procedure(
-    heap: Global,
-    headings: &[Heading],
-    token: Token,
-    word: &[u8],
-) -> Result<Stop, AllocError> {
-    let mut nearest = Nearest::new(heap, word);
-    for heading in headings {
-        nearest.offer(heading.name.as_str())?;
-    }
-    unknown(heap, Thing::Procedure, token, word, nearest.name)
-}
-
-// The names behind each `void`, in order.
-pub fn list_headings(
-    heap: Global,
-    text: &[u8],
-    tokens: &[Token],
-) -> Result<Vec<Heading>, AllocError> {
-    let mut headings = Vec::new(heap);
-    for (void, name) in tokens.iter().zip(tokens.iter().skip(1)) {
-        if void.kind == Kind::Void && name.kind == Kind::Name {
-            headings.push(Heading {
-                name: String::from_utf8_lossy(heap, name.word(text))?,
-                spot: name.spot,
-            })?;
-        }
-    }
-    Ok(headings)
-}
-
-// The labels up to the next `void`, where `tokens` begin behind the declarations of a procedure.
-pub fn list_labels(heap: Global, text: &[u8], tokens: &[Token]) -> Result<Vec<Label>, AllocError> {
-    let mut labels = Vec::new(heap);
-    let mut place: usize = 0;
-    for (token, next) in tokens.iter().zip(tokens.iter().skip(1)) {
-        if token.kind == Kind::Void {
-            break;
-        }
-        if token.kind == Kind::Semicolon {
-            place = place.saturating_add(1);
-        }
-        if token.kind == Kind::Name && next.kind == Kind::Colon {
-            labels.push(Label {
-                name: String::from_utf8_lossy(heap, token.word(text))?,
-                place,
-                spot: token.spot,
-            })?;
-        }
-    }
-    Ok(labels)
+// The number of the first of `all` that has the name `word`.
+pub fn find<T: Named>(all: &[T], word: &[u8]) -> Option<usize>
+    ensures { result ≡ position (λ x. bytes_eq (T.named x) word.now) all.now }
+{
+    all.iter().position(|named| named.name().as_bytes() == word)
 }

@@ -4,16 +4,15 @@ ghost use Rattle.std.specs.Prelude.{◌≡◌, ◌≤◌, IfOk, vec_len};
 ghost use Rattle.text.specs.declared.parser.Failure.TheVariants.{Memory};
 
 use crate::cursor::Cursor;
-use crate::declarations::{Level, declarations, guess_rest};
-use crate::diagnostics::{Diagnostic, Expected, Stop, Wrong};
+use crate::declarations::Declarations;
+use crate::diagnostics::{Diagnostic, Expected, Level, Stop, Wrong};
 use crate::lexer::lex;
-use crate::names::{Heading, Names, ProcedureNames, list_headings};
-use crate::procedures::read_procedure;
+use crate::names::{Heading, Names};
+use crate::procedures::{Parsed, list_headings, read_procedure};
 use crate::tokens::Kind;
+use program::programs::MOST_PROCEDURES;
 use std::alloc::{AllocError, AllocFailed, Global};
-use tree::programs::{Procedure, Tree};
-
-const MOST_PROCEDURES: usize = 64;
+use tree::programs::Tree;
 
 const MOST_ERRORS: usize = 10;
 
@@ -24,7 +23,8 @@ pub struct Source {
     pub names: Names,
 }
 
-// Why there is none: what is wrong, in the order of the text, or that memory is short.
+// Why there is none: what is wrong, in the order of the text, or that memory is short. One generic enum
+// for this and `Stop` is no plainer: it would call the errors of a text and one of them alike.
 #[derive(Drop)]
 pub enum Failure {
     Errors(Vec<Diagnostic>),
@@ -56,30 +56,24 @@ fn report(errors: &mut Vec<Diagnostic>, stop: Stop) -> Result<(), Failure> {
 }
 
 // What stands before the first procedure.
-fn read_head(cursor: &mut Cursor, shared: &mut Vec<String>) -> Result<(), Stop> {
-    let outer = Vec::new(cursor.heap);
-    declarations(cursor, shared, &outer, Level::Shared)?;
+fn read_head(declarations: &mut Declarations) -> Result<(), Stop> {
+    declarations.read()?;
+    let cursor = declarations.cursor;
     if !matches!(cursor.peek().kind, Kind::Void | Kind::Finish) {
-        return Err(cursor.unexpected(Expected::Head)?);
+        return cursor.unexpected(Expected::Head);
     }
     Ok(())
 }
 
 // The names of the shared variables.
 fn read_shared(cursor: &mut Cursor, errors: &mut Vec<Diagnostic>) -> Result<Vec<String>, Failure> {
-    let mut shared = Vec::new(cursor.heap);
-    if let Err(stop) = read_head(cursor, &mut shared) {
+    let mut shared = Declarations::new(*cursor, &[], Level::Shared);
+    if let Err(stop) = read_head(&mut shared) {
         report(errors, stop)?;
-        guess_rest(cursor, &mut shared)?;
+        shared.guess_rest()?;
     }
-    Ok(shared)
-}
-
-// The procedures of a program, and their names.
-#[derive(Drop)]
-struct Procedures {
-    trees: Vec<Procedure>,
-    names: Vec<ProcedureNames>,
+    *cursor = shared.cursor;
+    Ok(shared.names)
 }
 
 // All procedures from here on that are in order.
@@ -88,32 +82,25 @@ fn read_procedures(
     shared: &[String],
     headings: &[Heading],
     errors: &mut Vec<Diagnostic>,
-) -> Result<Procedures, Failure>
-    ensures { IfOk result (λ found. vec_len found.trees ≡ vec_len found.names) }
-{
-    let mut trees = Vec::new(cursor.heap);
-    let mut names = Vec::new(cursor.heap);
-    for number in 0..cursor.tokens.len() {
-        let first = cursor.peek();
-        if first.kind != Kind::Void || errors.len() >= MOST_ERRORS {
-            break;
-        }
-        if number >= MOST_PROCEDURES {
-            report(errors, Stop::new(first.spot, Wrong::TooManyProcedures))?;
-            break;
+) -> Result<Vec<Parsed>, Failure> {
+    let mut all = Vec::new(cursor.heap);
+    for _ in 0..MOST_PROCEDURES {
+        if errors.len() >= MOST_ERRORS || !cursor.accept(Kind::Void) {
+            return Ok(all);
         }
         match read_procedure(cursor, shared, headings) {
-            Ok(parsed) => {
-                trees.push(parsed.procedure)?;
-                names.push(parsed.names)?;
-            }
+            Ok(parsed) => all.push(parsed)?,
             Err(stop) => {
                 report(errors, stop)?;
                 cursor.skip_to_procedure();
             }
         }
     }
-    Ok(Procedures { trees, names })
+    let next = cursor.peek();
+    if errors.len() < MOST_ERRORS && next.kind == Kind::Void {
+        report(errors, Stop::new(next.spot, Wrong::TooManyProcedures))?;
+    }
+    Ok(all)
 }
 
 // The program that `text` is, or the first error of the part before the procedures and of each
@@ -123,12 +110,12 @@ pub fn parse(heap: Global, text: &[u8]) -> Result<Source, Failure>
     ensures shared { IfOk result (λ source. source.tree.shared ≡ vec_len source.names.shared) }
 {
     let tokens = lex(heap, text)?;
-    let headings = list_headings(heap, text, &tokens)?;
     let mut cursor = Cursor::new(heap, text, &tokens);
+    let headings = list_headings(&cursor)?;
     let mut errors = Vec::new(heap);
     let shared = read_shared(&mut cursor, &mut errors)?;
-    let found = read_procedures(&mut cursor, &shared, &headings, &mut errors)?;
-    if errors.is_empty() && found.trees.is_empty() {
+    let all = read_procedures(&mut cursor, &shared, &headings, &mut errors)?;
+    if errors.is_empty() && all.is_empty() {
         report(
             &mut errors,
             Stop::new(cursor.peek().spot, Wrong::NoProcedure),
@@ -137,13 +124,17 @@ pub fn parse(heap: Global, text: &[u8]) -> Result<Source, Failure>
     if !errors.is_empty() {
         return Err(Failure::Errors(errors));
     }
+    let (trees, names) = all
+        .into_iter()
+        .map(|parsed| (parsed.procedure, parsed.names))
+        .unzip(heap)?;
     let tree = Tree {
         shared: shared.len(),
-        procedures: found.trees,
+        procedures: trees,
     };
     let names = Names {
         shared,
-        procedures: found.names,
+        procedures: names,
     };
     Ok(Source { tree, names })
 }

@@ -2,13 +2,17 @@
 // a label L3 at place 3 where some step goes there. Parsed and encoded, the text gives the bytes again
 // (this is tested), unless its parentheses nest deeper than the parser allows. Relies on `program` for
 // reading bytes.
-use program::procedures::{Procedure, read_procedure};
-use program::programs::read;
-use program::steps::{ExprAt, PlaceNo, Scope, Step, VarNo, read_step};
+use program::kinds::ExpressionKind;
+use program::procedures::Procedure;
+use program::programs::{Header, read};
+use program::steps::{Found, PlaceNo, Step, VarNo};
+use program::walks::{Procedures, Steps};
 use std::alloc::{AllocError, Global};
+use std::fmt;
 
 // An operator that waits for an operand: the one of `!`, the left one of `&`, or the right one, with
-// whether it stands in parentheses.
+// whether it stands in parentheses. These are kept in a Vec, since a function that calls itself for each
+// operand was tried, and runs out of stack at the deepest programs where it is not optimized.
 #[derive(Clone, Copy)]
 enum Waiting {
     Not,
@@ -16,18 +20,17 @@ enum Waiting {
     Right { parens: bool },
 }
 
-// The bytes of the expression that ends at `end`.
-fn expr_row(bytes: &[u8], expr: ExprAt, end: usize) -> &[u8] {
-    let start = expr.0;
-    if start <= end && end <= bytes.len() {
-        &bytes[start..end]
-    } else {
-        &bytes[0..0]
+// The bytes of the expression that a step has, or none.
+fn expr_row(bytes: &[u8], found: Found) -> &[u8] {
+    match found.step {
+        Step::Set { expr, .. } | Step::Go { expr, .. }
+            if expr.0 <= found.end && found.end <= bytes.len() => { &bytes[expr.0..found.end] }
+        _ => &[],
     }
 }
 
 // How a step that goes from `place` is written.
-#[derive(Clone, Copy)]
+#[derive(Clone, Copy, PartialEq, Eq, Debug)]
 enum Jump {
     Skip,
     Goto,
@@ -36,63 +39,70 @@ enum Jump {
 
 // How a step is written that goes from `place` to `target` if `row` holds.
 fn written_as(place: u8, target: PlaceNo, row: &[u8]) -> Jump {
-    match row {
-        [0] if target.0 as usize == place as usize + 1 => Jump::Skip,
-        [0] => Jump::Goto,
-        _ => Jump::Branch,
+    let always = [u8::from(ExpressionKind::Yes)];
+    if row != always.as_slice() {
+        Jump::Branch
+    } else if usize::from(target.0) == usize::from(place) + 1 {
+        Jump::Skip
+    } else {
+        Jump::Goto
     }
 }
 
-// Which places of a procedure want a label: those that a step goes to which is not written as `skip`.
-fn list_targets(bytes: &[u8], procedure: Procedure, scope: Scope) -> [bool; 256] {
-    let mut labelled = [false; 256];
-    let mut at = procedure.first;
-    for place in 0..procedure.steps {
-        let Ok(found) = read_step(bytes, at, scope) else {
-            break;
-        };
-        if let Step::Go {
-            place: target,
-            expr,
-        } = found.step
-        {
-            if !matches!(
-                written_as(place, target, expr_row(bytes, expr, found.end)),
-                Jump::Skip
-            ) {
-                labelled[target.0 as usize] = true;
-            }
-        }
-        at = found.end;
-    }
-    labelled
-}
-
-// A text that grows, of a program with so many shared variables.
-#[derive(Drop)]
-struct Printer {
-    heap: Global,
+// A variable by its number, of which those below `shared` are shared.
+#[derive(Clone, Copy)]
+struct Variable {
+    number: u8,
     shared: u8,
+}
+
+impl fmt::Display for Variable {
+    fn fmt<W: fmt::Write>(&self, f: &mut fmt::Formatter<W>) -> fmt::Result {
+        if self.number < self.shared {
+            let shared = self.number;
+            write!(f, "s{shared}")
+        } else {
+            let own = self.number - self.shared;
+            write!(f, "v{own}")
+        }
+    }
+}
+
+// A text that grows, of the program that was read from `bytes`.
+#[derive(Drop)]
+struct Printer<'b> {
+    heap: Global,
+    bytes: &'b [u8],
+    header: Header,
     out: String,
 }
 
-impl Printer {
+impl Printer<'_> {
     fn word(&mut self, word: &str) -> Result<(), AllocError> {
         self.out.push_str(word)
     }
 
-    // A name: a letter and a number.
-    fn name(&mut self, letter: &str, number: usize) -> Result<(), AllocError> {
-        let name = format!(in self.heap; "{letter}{number}")?;
-        self.out.push_str(name.as_str())
+    fn variable(&self, var: VarNo) -> Variable {
+        Variable {
+            number: var.0,
+            shared: self.header.shared,
+        }
     }
 
-    fn variable(&mut self, var: u8) -> Result<(), AllocError> {
-        if var < self.shared {
-            self.name("s", var as usize)
-        } else {
-            self.name("v", (var - self.shared) as usize)
+    // Which places of a procedure want a label: those that a step goes to which is not written as
+    // `skip`.
+    fn list_targets(&self, procedure: Procedure) -> [bool; 256] {
+        let mut labelled = [false; 256];
+        let steps = Steps::new(self.bytes, procedure, self.header.scope(procedure));
+        for (place, found) in (0..procedure.steps).zip(steps) {
+            if let Step::Go { place: target, .. } = found.step {
+                let row = expr_row(self.bytes, found);
+                if written_as(place, target, row) != Jump::Skip {
+                    labelled[usize::from(target.0)] = true;
+                }
+            }
         }
+        labelled
     }
 
     // Goes on behind a whole operand: closes what it ends, up to an `&` that waits for its right one.
@@ -104,11 +114,8 @@ impl Printer {
                     waiting.push(Waiting::Right { parens })?;
                     return self.word(" & ");
                 }
-                Waiting::Right { parens } => {
-                    if parens {
-                        self.word(")")?;
-                    }
-                }
+                Waiting::Right { parens: true } => self.word(")")?,
+                Waiting::Right { parens: false } => {}
             }
         }
         Ok(())
@@ -117,25 +124,23 @@ impl Printer {
     // The expression that `row` is.
     fn expr(&mut self, row: &[u8]) -> Result<(), AllocError> {
         let mut waiting = Vec::new(self.heap);
-        let mut names_variable = false;
-        for byte in row {
-            if names_variable {
-                self.variable(*byte)?;
-                self.close(&mut waiting)?;
-                names_variable = false;
-                continue;
-            }
-            match *byte {
-                0 => {
+        let mut bytes = row.iter();
+        while let Some(first) = bytes.next() {
+            match ExpressionKind::try_from(*first) {
+                Ok(ExpressionKind::Yes) => {
                     self.word("1")?;
                     self.close(&mut waiting)?;
                 }
-                1 => names_variable = true,
-                2 => {
+                Ok(ExpressionKind::Var) => {
+                    let variable = self.variable(VarNo(bytes.next().copied().unwrap_or(0)));
+                    write!(self.out, "{variable}")?;
+                    self.close(&mut waiting)?;
+                }
+                Ok(ExpressionKind::Not) => {
                     self.word("!")?;
                     waiting.push(Waiting::Not)?;
                 }
-                _ => {
+                Ok(ExpressionKind::And) => {
                     let parens = matches!(
                         waiting.last(),
                         Some(Waiting::Not) | Some(Waiting::Right { .. })
@@ -145,35 +150,40 @@ impl Printer {
                     }
                     waiting.push(Waiting::Left { parens })?;
                 }
+                Err(_) => {}
             }
         }
         Ok(())
     }
 
-    // The step at `place`, where `row` is its expression if it has one.
-    fn step(&mut self, place: u8, step: Step, row: &[u8]) -> Result<(), AllocError> {
-        match step {
+    // The step at `place`.
+    fn step(&mut self, place: u8, found: Found) -> Result<(), AllocError> {
+        let row = expr_row(self.bytes, found);
+        match found.step {
             Step::Set { var, .. } => {
-                self.variable(var.0)?;
-                self.word(" := ")?;
+                let variable = self.variable(var);
+                write!(self.out, "{variable} := ")?;
                 self.expr(row)
             }
-            Step::Open(VarNo(var)) => {
-                self.variable(var)?;
-                self.word(" := *")
+            Step::Open(var) => {
+                let variable = self.variable(var);
+                write!(self.out, "{variable} := *")
             }
-            Step::Go { place: target, .. } => match written_as(place, target, row) {
-                Jump::Skip => self.word("skip"),
-                Jump::Goto => self.name("goto L", target.0 as usize),
-                Jump::Branch => {
-                    self.word("if (")?;
-                    self.expr(row)?;
-                    self.name(") goto L", target.0 as usize)
+            Step::Go { place: target, .. } => {
+                let PlaceNo(number) = target;
+                match written_as(place, target, row) {
+                    Jump::Skip => self.word("skip"),
+                    Jump::Goto => write!(self.out, "goto L{number}"),
+                    Jump::Branch => {
+                        self.word("if (")?;
+                        self.expr(row)?;
+                        write!(self.out, ") goto L{number}")
+                    }
                 }
-            },
+            }
             Step::Call(callee) => {
-                self.name("p", callee.0 as usize)?;
-                self.word("()")
+                let number = callee.0;
+                write!(self.out, "p{number}()")
             }
             Step::Return => self.word("return"),
         }
@@ -181,66 +191,41 @@ impl Printer {
 
     // `count` variables, whose names begin with `letter`.
     fn declaration(&mut self, indent: &str, letter: &str, count: u8) -> Result<(), AllocError> {
-        for i in 0..count {
-            let before = if i == 0 { "decl " } else { ", " };
-            if i == 0 {
-                self.word(indent)?;
-            }
-            self.word(before)?;
-            self.name(letter, i as usize)?;
+        if count == 0 {
+            return Ok(());
         }
-        if count > 0 {
-            self.word(";\n")?;
+        write!(self.out, "{indent}decl {letter}0")?;
+        for number in 1..count {
+            write!(self.out, ", {letter}{number}")?;
         }
-        Ok(())
+        self.word(";\n")
     }
 
     fn label(&mut self, labelled: &[bool; 256], place: u8) -> Result<(), AllocError> {
-        if labelled[place as usize] {
-            self.name("L", place as usize)?;
-            self.word(":\n")?;
+        if labelled[usize::from(place)] {
+            write!(self.out, "L{place}:\n")?;
         }
         Ok(())
     }
 
     // The steps of a procedure, with their labels.
-    fn body(&mut self, bytes: &[u8], procedure: Procedure, scope: Scope) -> Result<(), AllocError> {
-        let labelled = list_targets(bytes, procedure, scope);
-        let mut at = procedure.first;
-        for place in 0..procedure.steps {
-            let Ok(found) = read_step(bytes, at, scope) else {
-                break;
-            };
-            let row = match found.step {
-                Step::Set { expr, .. } | Step::Go { expr, .. } => expr_row(bytes, expr, found.end),
-                _ => expr_row(bytes, ExprAt(found.end), found.end),
-            };
+    fn body(&mut self, procedure: Procedure) -> Result<(), AllocError> {
+        let labelled = self.list_targets(procedure);
+        let steps = Steps::new(self.bytes, procedure, self.header.scope(procedure));
+        for (place, found) in (0..procedure.steps).zip(steps) {
             self.label(&labelled, place)?;
             self.word("    ")?;
-            self.step(place, found.step, row)?;
+            self.step(place, found)?;
             self.word(";\n")?;
-            at = found.end;
         }
         self.label(&labelled, procedure.steps)
     }
 
-    // Procedure `number` of a program with `procs` of them.
-    fn procedure(
-        &mut self,
-        bytes: &[u8],
-        number: usize,
-        procedure: Procedure,
-        procs: usize,
-    ) -> Result<(), AllocError> {
-        let scope = Scope {
-            vars: self.shared as usize + procedure.own as usize,
-            last: PlaceNo(procedure.steps),
-            procs,
-        };
-        self.name("void p", number)?;
-        self.word("() begin\n")?;
+    // Procedure `number` of the program.
+    fn procedure(&mut self, number: usize, procedure: Procedure) -> Result<(), AllocError> {
+        write!(self.out, "void p{number}() begin\n")?;
         self.declaration("    ", "v", procedure.own)?;
-        self.body(bytes, procedure, scope)?;
+        self.body(procedure)?;
         self.word("end\n")
     }
 }
@@ -252,20 +237,16 @@ pub fn print(heap: Global, bytes: &[u8]) -> Result<Option<String>, AllocError> {
     };
     let mut printer = Printer {
         heap,
-        shared: header.shared,
+        bytes,
+        header,
         out: String::new(heap),
     };
     printer.declaration("", "s", header.shared)?;
-    let mut at = 1;
-    for number in 0..header.procs {
-        let Ok(found) = read_procedure(bytes, at, header.shared, header.procs) else {
-            return Ok(None);
-        };
+    for (number, procedure) in Procedures::new(bytes, header).enumerate() {
         if number > 0 || header.shared > 0 {
             printer.word("\n")?;
         }
-        printer.procedure(bytes, number, found, header.procs)?;
-        at = found.end;
+        printer.procedure(number, procedure)?;
     }
     Ok(Some(printer.out))
 }

@@ -2,32 +2,47 @@
 ghost use Rattle.std.specs.Prelude.{◌≡◌, ◌+◌, ◌≤◌, IfOk, vec_len};
 
 use crate::cursor::Cursor;
-use crate::declarations::{Level, declarations};
-use crate::diagnostics::{Expected, Stop, Thing, Wrong};
-use crate::names::{Heading, ProcedureNames, Scope, find_heading, find_label, list_labels};
-use crate::statements::statement;
-use crate::tokens::{Kind, Spot, Token};
+use crate::declarations::Declarations;
+use crate::diagnostics::{Expected, Level, Stop, Thing, Wrong};
+use crate::names::{Heading, Label, ProcedureNames, Scope, find};
+use crate::reader::Reader;
+use crate::tokens::{Kind, Token};
+use std::alloc::AllocError;
 use tree::programs::{Procedure, Statement};
 
-const MOST_STATEMENTS: usize = 255;
+pub const MOST_STATEMENTS: usize = 255;
 
-// That the name `token` was given before, at another place than here.
-fn taken(cursor: &Cursor, thing: Thing, token: Token) -> Result<Stop, Stop> {
-    let name = String::from_utf8_lossy(cursor.heap, token.word(cursor.text))?;
-    Ok(Stop::new(token.spot, Wrong::Taken { thing, name }))
-}
-
-// Goes past a label, which no label before has the name of.
-fn label(cursor: &mut Cursor, scope: &Scope) -> Result<(), Stop> {
-    let token = cursor.peek();
-    if let Some(first) = find_label(scope.labels, token.word(cursor.text)) {
-        if first.spot != token.spot {
-            return Err(taken(cursor, Thing::Label, token)?);
+// The names behind each `void`, in order.
+pub fn list_headings(cursor: &Cursor) -> Result<Vec<Heading>, AllocError> {
+    let mut headings = Vec::new(cursor.heap);
+    for (void, token) in cursor.rest.iter().zip(cursor.rest.iter().skip(1)) {
+        if void.kind == Kind::Void && token.kind == Kind::Name {
+            headings.push(Heading {
+                name: cursor.name(*token)?,
+                spot: token.spot,
+            })?;
         }
     }
-    cursor.advance();
-    cursor.advance();
-    Ok(())
+    Ok(headings)
+}
+
+// The labels up to the next `void`, where `cursor` stands behind the declarations of a procedure.
+fn list_labels(cursor: &Cursor) -> Result<Vec<Label>, AllocError> {
+    let mut labels = Vec::new(cursor.heap);
+    let mut place: usize = 0;
+    for (token, next) in cursor.rest.iter().zip(cursor.rest.iter().skip(1)) {
+        match (token.kind, next.kind) {
+            (Kind::Void, _) => break,
+            (Kind::Semicolon, _) => place = place.saturating_add(1),
+            (Kind::Name, Kind::Colon) => labels.push(Label {
+                name: cursor.name(*token)?,
+                place,
+                spot: token.spot,
+            })?,
+            _ => {}
+        }
+    }
+    Ok(labels)
 }
 
 // The statements of a procedure, with the line of each and last that of `end`.
@@ -37,41 +52,50 @@ struct Body {
     lines: Vec<usize>,
 }
 
-// Up to the `end` of a procedure.
-fn read_body(cursor: &mut Cursor, scope: &Scope) -> Result<Body, Stop>
-    ensures { IfOk result (λ body. (vec_len body.lines ≡ vec_len body.statements + 1) × (vec_len body.statements ≤ 255)) }
-{
-    let mut statements = Vec::new(cursor.heap);
-    let mut lines = Vec::new(cursor.heap);
-    for _ in 0..cursor.tokens.len() {
-        let first = cursor.peek();
-        if cursor.accept(Kind::End) {
-            lines.push(first.spot.line)?;
-            return Ok(Body { statements, lines });
+impl Reader<'_, '_, '_> {
+    // Goes past the labels here, none of which is that of another place before.
+    fn skip_labels(&mut self) -> Result<(), Stop> {
+        while self.cursor.peek_second().kind == Kind::Colon
+            && let Some(token) = self.cursor.take(Kind::Name)
+        {
+            if let Some(first) = find(self.scope.labels, self.cursor.word(token))
+                && self.scope.labels[first].spot != token.spot
+            {
+                return self.cursor.taken(Thing::Label, token);
+            }
+            self.cursor.advance();
         }
-        if first.kind == Kind::Name && cursor.peek_second().kind == Kind::Colon {
-            label(cursor, scope)?;
-        } else {
+        Ok(())
+    }
+
+    // Up to the `end` of a procedure.
+    fn read_body(&mut self) -> Result<Body, Stop>
+        ensures { IfOk result (λ body. (vec_len body.lines ≡ vec_len body.statements + 1) × (vec_len body.statements ≤ 255)) }
+    {
+        let mut statements = Vec::new(self.cursor.heap);
+        let mut lines = Vec::new(self.cursor.heap);
+        loop {
+            self.skip_labels()?;
+            let first = self.cursor.peek();
+            lines.push(first.spot.line)?;
+            if self.cursor.accept(Kind::End) {
+                return Ok(Body { statements, lines });
+            }
             if statements.len() >= MOST_STATEMENTS {
                 return Err(Stop::new(first.spot, Wrong::TooManyStatements));
             }
-            statements.push(statement(cursor, scope)?)?;
-            lines.push(first.spot.line)?;
+            statements.push(self.statement()?)?;
         }
     }
-    Err(cursor.unexpected(Expected::Statement)?)
 }
 
-// The name of a procedure that begins at `void`; goes on behind its `begin`.
+// The name of a procedure behind its `void`; goes on behind its `begin`.
 fn read_heading(cursor: &mut Cursor, headings: &[Heading]) -> Result<Token, Stop> {
-    cursor.expect(Kind::Void, Expected::ProcedureOrFinish)?;
     let token = cursor.expect(Kind::Name, Expected::ProcedureName)?;
-    if let Some(first) = find_heading(headings, token.word(cursor.text)) {
-        if let Some(heading) = headings.get(first)
-            && heading.spot != token.spot
-        {
-            return Err(taken(cursor, Thing::Procedure, token)?);
-        }
+    if let Some(first) = find(headings, cursor.word(token))
+        && headings[first].spot != token.spot
+    {
+        return cursor.taken(Thing::Procedure, token);
     }
     cursor.expect(Kind::Opening, Expected::Opening)?;
     cursor.expect(Kind::Closing, Expected::Closing)?;
@@ -86,37 +110,39 @@ pub struct Parsed {
     pub names: ProcedureNames,
 }
 
-// The procedure that begins at `void`. Another follows, or nothing.
-pub fn read_procedure<'a>(
+// The procedure whose `void` stands before. Another follows, or nothing.
+pub fn read_procedure(
     cursor: &mut Cursor,
-    shared: &'a [String],
-    headings: &'a [Heading],
+    shared: &[String],
+    headings: &[Heading],
 ) -> Result<Parsed, Stop>
     ensures lines { IfOk result (λ parsed. vec_len parsed.names.lines ≡ vec_len parsed.procedure.body + 1) }
     ensures own { IfOk result (λ parsed. vec_len parsed.names.own ≡ parsed.procedure.own) }
 {
-    let heap = cursor.heap;
     let token = read_heading(cursor, headings)?;
-    let mut own = Vec::new(heap);
-    declarations(cursor, &mut own, shared, Level::Own)?;
-    let labels = list_labels(heap, cursor.text, cursor.rest())?;
+    let mut declarations = Declarations::new(*cursor, shared, Level::Own);
+    declarations.read()?;
+    *cursor = declarations.cursor;
+    let own = declarations.names;
+    let labels = list_labels(cursor)?;
     let scope = Scope {
         shared,
         own: &own,
         labels: &labels,
         procedures: headings,
     };
-    let body = read_body(cursor, &scope)?;
+    let mut reader = Reader::new(*cursor, scope);
+    let body = reader.read_body()?;
+    *cursor = reader.cursor;
     if !matches!(cursor.peek().kind, Kind::Void | Kind::Finish) {
-        return Err(cursor.unexpected(Expected::ProcedureOrFinish)?);
+        return cursor.unexpected(Expected::ProcedureOrFinish);
     }
-    let name = String::from_utf8_lossy(heap, token.word(cursor.text))?;
     let procedure = Procedure {
         own: own.len(),
         body: body.statements,
     };
     let names = ProcedureNames {
-        name,
+        name: cursor.name(token)?,
         line: token.spot.line,
         own,
         labels,
