@@ -2,13 +2,12 @@
 -- one before.
 use Rattle.std.proofs.Common.{◌≡◌, ℕ, zero, suc, ◌+◌, ◌-◌, ◌<◌, ◌≤◌, List, ◌∷◌, length, length-set, length-drop, add-one, rules, drop, get_or, set, take, sym, refl, ap, ◌∙◌, subst, inl, inr, arith}
 use mathlib.Core.Option.{some}
-use Rattle.std.proofs.lemmas.List.{get_or-set_same, get_or-set_other, get_or-take, length-take, places}
+use Rattle.std.proofs.lemmas.List.{get_or-set_same, get_or-set_other, length-take, places}
 use borrow.Rule.Slice.PartMut.{put_mid}
 use Rattle.std.proofs.lemmas.Bool.{cases_eq, cases_lt}
 use Rattle.program.specs.Program.{nth, call, Proc, Prog}
 use Rattle.program.specs.Rows.{Reads}
 use Rattle.program.specs.Numbers.{loc}
-use Rattle.program.specs.WellFormed.{Good}
 use Rattle.program.proofs.Kept.{good, ok_step, nth_lt}
 use Rattle.program.proofs.Prefix.{one_program}
 use Rattle.expansion.specs.declared.sites.Sites.{Sites}
@@ -26,9 +25,10 @@ pub record Part (g : Prog) (starts sites : List ℕ) (count e : ℕ) : Type 0 wh
   pub each : (s : ℕ) → s < count → (d : ℕ) × CallPlace g d (get_or sites s 0)
   pub all : (f : ℕ) (p : Proc) (a d : ℕ) → d < e → nth g.procs f ≡ some p → nth p.steps a ≡ some (call d) → (s : ℕ) × (get_or starts d 0 ≤ s) × (s < get_or starts (d + 1) 0) × (get_or sites s 0 ≡ loc g f p a 0)
 
--- and the words are as many as they were
-pub record Gathered (src : Source) (n : ℕ) (ends : List ℕ) (y : Sites) (e : ℕ) : Type 0 where
-  pub long : length y.words.now ≡ n
+-- and the words are those of x, as many as they were
+pub record Gathered (src : Source) (x : Sites) (ends : List ℕ) (y : Sites) (e : ℕ) : Type 0 where
+  pub same : y.words.ghost_name ≡ x.words.ghost_name
+  pub long : length y.words.now ≡ length x.words.now
   pub it : (g : Prog) → Known src g → Part g (0 ∷ ends) y.words.now y.count e
 
 pub part_room : {g : Prog} {starts sites : List ℕ} {count e : ℕ} → Part g starts sites count e → count + calls_of e g.procs ≤ steps g.procs
@@ -74,24 +74,10 @@ module _ {g : Prog} {starts : List ℕ} {y : Sites} {e : ℕ} (v : Part g starts
       pub part_next : Part g (set starts (e + 1) z.count) z.words.now z.count (e + 1)
       part_next = record { few = omega (arith, v.few, i.few, below_more e g.procs); last = new_start; order = order1; each = each1; all = all1 }
 
-pub gathered_next : {src : Source} {n : ℕ} {ends : List ℕ} {y : Sites} {e : ℕ} → Gathered src n ends y e → {g : Prog} → Known src g → (z : Sites) → CalleeListed src e y z → e < length ends → Gathered src n (set ends e z.count) z (e + 1)
+pub gathered_next : {src : Source} {x : Sites} {ends : List ℕ} {y : Sites} {e : ℕ} → Gathered src x ends y e → {g : Prog} → Known src g → (z : Sites) → CalleeListed src e y z → e < length ends → Gathered src x (set ends e z.count) z (e + 1)
 gathered_next {ends = ends} {e = e} v {g} k z i room =
     let same : set (0 ∷ ends) (e + 1) z.count ≡ 0 ∷ set ends e z.count = rw add-one refl in
-    record { long = (i g k).adds.long ∙ v.long; it = λ g o. subst (λ l. Part g l z.words.now z.count (e + 1)) same (part_next (v.it g o) z (i g o) (omega arith)) }
-
--- the part of the words that is filled is the list
-sites_cut : {g : Prog} → Good g → {starts sites : List ℕ} {count : ℕ} → SitesAre g starts sites count → SitesAre g starts (take count sites) (length (take count sites))
-sites_cut {g} w {starts} {sites} {count} si =
-    let long : length (take count sites) ≡ count = simp length-take (omega (arith, si.within)) in
-    record {
-      within = omega arith;
-      order = λ f l. ((si.order f l).0, omega (arith, (si.order f l).1, long));
-      each = λ s l. let x = si.each s (omega (arith, long)) in (x.0, subst (CallPlace g x.0) (sym (get_or-take count sites s 0 (omega (arith, long)))) x.1);
-      all = λ f p a d h i.
-          let x = si.all f p a d h i in
-          let m = si.order d (ok_step w f p a (call d) h i) in
-          (x.0, x.1, x.2, get_or-take count sites x.0 0 (omega (arith, x.2, m.1)) ∙ x.3);
-    }
+    record { same = (i g k).adds.same ∙ v.same; long = (i g k).adds.long ∙ v.long; it = λ g o. subst (λ l. Part g l z.words.now z.count (e + 1)) same (part_next (v.it g o) z (i g o) (omega arith)) }
 
 pub ends_long : (starts : List ℕ) (n : ℕ) → n < length starts → length (take (n + 1 - 1) (drop 1 (set starts 0 0))) ≡ n
 ends_long starts n l = grind (arith, length-take, length-drop, length-set)
@@ -101,9 +87,9 @@ pub starts_are : (starts ends : List ℕ) (n : ℕ) → length ends ≡ n → n 
 starts_are starts ends n l m zero k = let x = get_or-set_same starts 0 0 0 (omega arith) in let y = length-set starts 0 0 in (let q : get_or (put_mid 1 (n + 1 - 1) (set starts 0 0) ends) 0 0 ≡ get_or (set starts 0 0) 0 0 = search (rules, places) in q ∙ x)
 starts_are starts ends n l m (suc d) k = let y = length-set starts 0 0 in (let q : get_or (put_mid 1 (n + 1 - 1) (set starts 0 0) ends) (suc d) 0 ≡ get_or ends (suc d - 1) 0 = search (rules, places) in q ∙ ap (λ i. get_or ends i 0) (omega arith))
 
-pub gathered_last : {src : Source} {n : ℕ} {ends : List ℕ} {y : Sites} {e : ℕ} → Gathered src n ends y e → e ≡ src.header.procs → (g : Prog) → Known src g → steps g.procs ≤ n →
-    (starts : List ℕ) → ((d : ℕ) → d ≤ src.header.procs → get_or starts d 0 ≡ get_or (0 ∷ ends) d 0) → (r : List ℕ) → r ≡ take y.count y.words.now → SitesListed src.bytes.now src.header starts r (length r)
-gathered_last {src} {n} {ends} {y} {e} v l g k room starts are r cut g1 k1 =
+pub gathered_last : {src : Source} {x : Sites} {ends : List ℕ} {y : Sites} {e : ℕ} → Gathered src x ends y e → e ≡ src.header.procs → (g : Prog) → Known src g → steps g.procs ≤ length x.words.now →
+    (starts : List ℕ) → ((d : ℕ) → d ≤ src.header.procs → get_or starts d 0 ≡ get_or (0 ∷ ends) d 0) → SitesListed src.bytes.now src.header starts y.words.now y.count
+gathered_last {src} {ends = ends} {y = y} {e = e} v l g k room starts are g1 k1 =
     let x = v.it g k in
     let z : e ≡ length g.procs = l ∙ k.headed.header.procs in
     let is : SitesAre g starts y.words.now y.count = record {
@@ -117,4 +103,4 @@ gathered_last {src} {n} {ends} {y} {e} v l g k room starts are r cut g1 k1 =
           let o = x.all f p a d (omega (arith, m)) t c in
           (o.0, omega (arith, o.1, are d (omega (arith, l, m))), omega (arith, o.2, are (d + 1) (omega (arith, l, m))), o.3);
     } in
-    rw cut (subst (λ m. SitesAre m starts (take y.count y.words.now) (length (take y.count y.words.now))) (one_program src.bytes.now g g1 k.headed.reads k1.reads) (sites_cut (good k.headed.reads) is))
+    subst (λ m. SitesAre m starts y.words.now y.count) (one_program src.bytes.now g g1 k.headed.reads k1.reads) is

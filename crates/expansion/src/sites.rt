@@ -1,5 +1,5 @@
 // The call places of each procedure.
-ghost use Rattle.std.specs.Prelude.{◌≡◌, ℕ, ◌+◌, ◌<◌, ◌≤◌, length, take};
+ghost use Rattle.std.specs.Prelude.{◌≡◌, ℕ, ◌+◌, ◌<◌, ◌≤◌, length};
 ghost use Rattle.program.specs.Program.{Prog, Proc};
 ghost use Rattle.expansion.specs.Procs.{ProcIs};
 ghost use Rattle.expansion.specs.Programs.{Known};
@@ -13,12 +13,13 @@ use program::steps::Step;
 use program::walks::Procedures;
 
 // Call places, listed in lent words: the first `count` of these are listed.
+#[derive(Drop)]
 struct Sites<'s> {
     words: &'s mut [u32],
     count: usize,
 }
 
-impl<'s> Sites<'s> {
+impl Sites<'_> {
     // Lists one more.
     fn push(&mut self, node: u32)
         requires { self.old.count < length self.old.words.now }
@@ -27,15 +28,6 @@ impl<'s> Sites<'s> {
     {
         self.words[self.count] = node;
         self.count += 1;
-    }
-
-    // The words that are filled.
-    fn filled(self) -> &'s [u32]
-        requires { self.count ≤ length self.words.now }
-        ensures { result.now ≡ take self.entry.count self.entry.words.now }
-    {
-        let Sites { words, count } = self;
-        &words[..count]
     }
 
     // Lists `node`, if the step calls `callee`.
@@ -73,23 +65,34 @@ impl<'s> Sites<'s> {
             self.list_procedure(source, procedure, start, callee);
         }
     }
+
+    // Lists all call places, those of each procedure in turn, and where those of each begin.
+    fn list_all(&mut self, source: Source, starts: &mut [u32])
+        requires empty { self.old.count ≡ 0 }
+        requires known { (g : Prog) × Known source g × (length g.procs < length starts.old) × (steps g.procs ≤ length self.old.words.now) }
+        ensures same { self.new.words.ghost_name ≡ self.old.words.ghost_name }
+        ensures listed { SitesListed source.entry.bytes.now source.entry.header starts.new self.new.words.now self.new.count }
+    {
+        starts[0] = 0;
+        let ends = &mut starts[1..source.header.procs + 1];
+        for (callee, end) in ends.iter_mut().enumerate() {
+            self.list_callee(source, callee);
+            *end = self.count as u32;
+        }
+    }
 }
 
-// Lists all call places, those of each procedure in turn, and where those of each begin: the part of `sites`
-// that they fill.
-pub fn list_sites<'s>(source: Source, starts: &mut [u32], sites: &'s mut [u32]) -> &'s [u32]
+// Lists all call places, those of each procedure in turn, and where those of each begin; how many there are. Their
+// slice is not handed out: what `sites` holds once such a borrow ends could not be told (tried: an `ensures*` over a
+// part of a field is not proved).
+pub fn list_sites(source: Source, starts: &mut [u32], sites: &mut [u32]) -> usize
     requires { (g : Prog) × Known source g × (length g.procs < length starts.old) × (steps g.procs ≤ length sites.old) }
-    ensures { SitesListed source.entry.bytes.now source.entry.header starts.new result.now (length result.now) }
+    ensures { SitesListed source.entry.bytes.now source.entry.header starts.new sites.new result }
 {
     let mut listed = Sites {
         words: sites,
         count: 0,
     };
-    starts[0] = 0;
-    let ends = &mut starts[1..source.header.procs + 1];
-    for (callee, end) in ends.iter_mut().enumerate() {
-        listed.list_callee(source, callee);
-        *end = listed.count as u32;
-    }
-    listed.filled()
+    listed.list_all(source, starts);
+    listed.count
 }
