@@ -14,7 +14,9 @@ use Rattle.program.proofs.Kept.{good, ok_step}
 use Rattle.expansion.specs.Words.{Upto}
 use Rattle.expansion.specs.Programs.{Headed, Expanded}
 use Rattle.expansion.specs.Sites.{CallPlace, SitesAre}
-use Rattle.places.specs.Solving.{Entries}
+use Rattle.expansion.specs.Listing.{SitesListed}
+use Rattle.places.specs.Solving.{Entries, Solved}
+use Rattle.places.specs.Solutions.{Settled}
 use Rattle.places.proofs.Bridge.{inside_from, inside_back, entered_from, entered_back, fine, sited, starts_at}
 
 module _ (g : Prog) (starts w : List ℕ) (ok : Good g) (few : g.shared ≤ 6) (u : Upto g starts w (total g.shared g.procs)) where
@@ -63,5 +65,14 @@ module _ {s : List ℕ} {h : Header} (g : Prog) (r : Headed s h g) (starts w : L
   pub told_at : (sets : List ℕ) → Tells w k h.table 0 sets → Tells w (2 ^ g.shared) (total g.shared g.procs) 0 sets
   told_at sets t = subst (λ z. Tells w (2 ^ g.shared) z 0 sets) r.header.table (subst (λ z. Tells w z h.table 0 sets) shared_is t)
 
-  pub solved_at : (sets : List ℕ) → Tells w k h.table 0 sets → (n : ℕ) → n < total g.shared g.procs → Entries sets n ↔ ((bs : List ℕ) × pushdown.Reached (numbered g) 0 n bs)
-  solved_at sets t = solved g starts w (good r.reads) r.reads.few (x g r) sets (told_at sets t)
+-- all that settling leaves, from what each of its calls does
+pub settled_by : {s : List ℕ} {h : Header} {starts w sites sets : List ℕ} {count k n : ℕ} → Expanded s h starts w → k ≡ 2 ^ h.shared → n ≡ count → SitesListed s h starts sites count → Tells w k h.table 0 sets → Settled s h starts w (take n sites) (length (take n sites)) sets
+settled_by {n = n} x ke e l t = λ g r. record {
+  expanded = x g r;
+  listed = sites_cut (good r.reads) n e (l g r);
+  told = told_at g r _ _ x _ ke _ t;
+}
+
+-- what settling leaves tells which numbers are reached
+pub solved_by : {s : List ℕ} {h : Header} {starts w sites sets : List ℕ} {count : ℕ} → Settled s h starts w sites count sets → Solved s h sets
+solved_by x = λ g e. let y = x g e in solved g _ _ (good e.reads) e.reads.few y.expanded _ y.told

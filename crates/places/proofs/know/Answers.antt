@@ -1,24 +1,27 @@
-use Rattle.std.proofs.Common.{◌≡◌, ◌++◌, length, drop, ap, arith, length-take}
+-- `know`: each answer, from what is found of the bytes and the words, and from the table that is told.
+use Rattle.std.proofs.Common.{◌++◌, length, drop, Err, sym, ◌∙◌, ap, subst}
+use Rattle.expansion.specs.Programs.{Headed}
+use Rattle.places.specs.Accepting.{Accepted}
 use Rattle.places.proofs.Answering.{no_program, few, full, told}
 use Rattle.places.proofs.know.Goals as goal
 
-pub returns-in_default : goal.returns-in_default
-returns-in_default c = no_program _ _ _ c.in_default.ensures.reads
+pub returns-in-Err-NoProgram : goal.returns-in-Err-NoProgram
+returns-in-Err-NoProgram c = no_program _ _ _ (subst (λ r. Accepted c.args.program.now (length c.args.work.now) (Err r)) c.in-Err-NoProgram.field-0-is c.in-Err-NoProgram.ensures)
 
-pub returns-then-work-header : goal.returns-then-work-header
-returns-then-work-header c = let r = c.in-Ok.ensures.reads in few r.1 r.2 _ _ c.if-work-header.true
+pub returns-in-Err-FewWords : goal.returns-in-Err-FewWords
+returns-in-Err-FewWords c = few _ _ _ (subst (λ r. Accepted c.args.program.now (length c.args.work.now) (Err r)) c.in-Err-FewWords.field-0-is c.in-Err-FewWords.ensures)
 
 pub returns-then-table-bytes : goal.returns-then-table-bytes
-returns-then-table-bytes c = let r = c.in-Ok.ensures.reads in full r.1 r.2 _ _ c.if-work-header.false c.if-table-bytes.true
+returns-then-table-bytes c = let a = c.in-Ok.ensures in full a.1.1 _ a.1.2 _ c.if-table-bytes.true
 
-pub tell-requires : goal.tell-requires
-tell-requires c =
-    let r = c.in-Ok.ensures.reads in
-    (r.0, record { headed = record { reads = r.1; header = r.2 }; table_long = simp length-take (omega (arith, c.if-table-bytes.false, r.2.table)); work_long = omega (arith, c.if-work-header.false, r.2.work) })
+pub tell-requires-clause-lent : goal.tell-requires-clause-lent
+tell-requires-clause-lent c =
+    let a = c.in-Ok.ensures in
+    (a.1.0, record { headed = subst (λ z. Headed z c.in-Ok.read.header a.1.0) (sym a.0) a.1.1; work_long = a.1.2 })
 
-pub returns : goal.returns
-returns c =
-    let r = c.in-Ok.ensures.reads in
-    let table = c.tell.ensures r.0 (record { reads = r.1; header = r.2 }) in
-    let long : c.in-Ok.header.table ≡ length c.tell.new.table = omega (arith, table.long, r.2.table) in
-    told r.1 r.2 _ _ c.if-work-header.false c.tell.new.table _ table (ap (λ n. c.tell.new.table ++ drop n c.args.table.now) long)
+pub returns-else-table-bytes : goal.returns-else-table-bytes
+returns-else-table-bytes c =
+    let a = c.in-Ok.ensures in
+    let table = c.tell.ensures a.1.0 (subst (λ z. Headed z c.in-Ok.read.header a.1.0) (sym a.0) a.1.1) in
+    let long = sym (table.long ∙ sym a.1.1.header.table) in
+    told a.1.1 _ a.1.2 _ c.tell.new.table _ table (ap (λ n. c.tell.new.table ++ drop n c.args.table.now) long)
