@@ -1,5 +1,5 @@
 -- Each answer of `know` and of `depth`, from what reading says and from what was told or measured.
-use Rattle.std.proofs.Common.{◌≡◌, ℕ, ◌<◌, ◌≤◌, List, ◌++◌, length, take, drop, refl, ap, ◌∙◌, arith}
+use Rattle.std.proofs.Common.{◌≡◌, ℕ, ◌<◌, ◌≤◌, List, ◌++◌, length, take, drop, refl, ap, ◌∙◌, subst, arith}
 use Rattle.std.proofs.lemmas.List.{take_at, drop_at}
 use Rattle.program.specs.declared.programs.Header.{Header}
 use Rattle.program.specs.Program.{Prog}
@@ -8,13 +8,8 @@ use Rattle.expansion.specs.Programs.{Headed}
 use Rattle.program.specs.Table.{wants}
 use Rattle.program.proofs.Proved.{laws, waits_by_calls}
 use Rattle.places.specs.declared.Known.TheVariants.{Told, NoProgram, OutFull, Few}
-use Rattle.places.specs.declared.Deep.{Deep}
-use Rattle.places.specs.declared.Deep.TheVariants.{Unread, Short}
-use Rattle.places.specs.Says.{Table, KnownPost, DeepSays, DeepPost}
-
--- what is asked of a call that decides: the words do, and the program reads
-enough_words : {s : List ℕ} {h : Header} {g : Prog} → Headed s h g → (w : ℕ) → wants g ≤ w → ((g : Prog) × Reads s g × (w < wants g)) → ⊥
-enough_words {s} {g = g} r w l q = let e = ap wants (laws.one_program s q.0 g q.1 r.reads) in omega (arith, q.2, e)
+use Rattle.places.specs.declared.Deep.TheVariants.{AtMost, Endless, Unread, Short}
+use Rattle.places.specs.Says.{Table, Bounded, Unbounded, KnownPost, DeepPost}
 
 pub no_program : (s o : List ℕ) (w : ℕ) → ((g : Prog) → Reads s g → ⊥) → KnownPost s o o w NoProgram
 no_program s o w n = record { says = (n, refl); few = ((λ h. absurd (n h.0 h.1)), (λ e. absurd (cc))); laws = laws }
@@ -28,16 +23,26 @@ unread s w n = record { says = n; short = ((λ h. absurd (n h.0 h.1)), (λ e. ab
 pub short : (s : List ℕ) (w : ℕ) → ((g : Prog) × Reads s g × (w < wants g)) → DeepPost s w Short
 short s w h = record { says = tt; short = ((λ _. refl), (λ _. h)); laws = laws; waits = waits_by_calls }
 
-module _ {s : List ℕ} {h : Header} {g : Prog} (r : Headed s h g) (w : ℕ) (l : wants g ≤ w) where
+-- and with the bytes b of a program that was read
+module _ {s b : List ℕ} (same : b ≡ s) {h : Header} {g : Prog} (r : Headed b h g) (w : ℕ) (l : h.work ≤ w) where
+  here : Headed s h g
+  here = subst (λ z. Headed z h g) same r
+
+  not_few : ((g : Prog) × Reads s g × (w < wants g)) → ⊥
+  not_few q = let e = ap wants (laws.one_program s q.0 g q.1 here.reads) in omega (arith, q.2, e, r.header.work)
+
   pub full : (o : List ℕ) → length o < h.table → KnownPost s o o w OutFull
-  full o m = record { says = (g, r.reads, omega (arith, r.header.table), refl); few = ((λ q. absurd (enough_words r w l q)), (λ e. absurd (cc))); laws = laws }
+  full o m = record { says = (g, here.reads, omega (arith, r.header.table), refl); few = ((λ q. absurd (not_few q)), (λ e. absurd (cc))); laws = laws }
 
   pub told : (o t o' : List ℕ) → Table g t → o' ≡ t ++ drop (length t) o → KnownPost s o o' w Told
   told o t o' m e = record {
-    says = (g, t, r.reads, m, ap (take (length t)) e ∙ take_at t (drop (length t) o) (length t) refl, ap (drop (length t)) e ∙ drop_at t (drop (length t) o) (length t) refl);
-    few = ((λ q. absurd (enough_words r w l q)), (λ e. absurd (cc)));
+    says = (g, t, here.reads, m, ap (take (length t)) e ∙ take_at t (drop (length t) o) (length t) refl, ap (drop (length t)) e ∙ drop_at t (drop (length t) o) (length t) refl);
+    few = ((λ q. absurd (not_few q)), (λ e. absurd (cc)));
     laws = laws;
   }
 
-  pub measured : (x : Deep) → (x ≡ Short → ⊥) → DeepSays s x → DeepPost s w x
-  measured x n q = record { says = q; short = ((λ f. absurd (enough_words r w l f)), (λ e. absurd (n e))); laws = laws; waits = waits_by_calls }
+  pub bounded : (d : ℕ) → Bounded g d → DeepPost s w (AtMost d)
+  bounded d m = record { says = (g, here.reads, m); short = ((λ q. absurd (not_few q)), (λ e. absurd (cc))); laws = laws; waits = waits_by_calls }
+
+  pub endless : Unbounded g → DeepPost s w Endless
+  endless m = record { says = (g, here.reads, m); short = ((λ q. absurd (not_few q)), (λ e. absurd (cc))); laws = laws; waits = waits_by_calls }

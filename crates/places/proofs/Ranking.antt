@@ -7,7 +7,6 @@ use Rattle.saturation.specs.System.{Fine, Starts, TellsInside}
 use Rattle.saturation.proofs.Nodes.{half}
 use Rattle.ranking.specs.Calls.{Aligned, Grouped}
 use Rattle.ranking.specs.Ranks.{Ranked}
-use Rattle.program.specs.declared.programs.Header.{Header}
 use Rattle.program.specs.Program.{Prog}
 use Rattle.program.specs.Table.{total}
 use Rattle.program.specs.WellFormed.{Good}
@@ -16,6 +15,7 @@ use Rattle.program.proofs.Sizes.{before_none}
 use Rattle.program.proofs.Proved.{at_most, endless}
 use Rattle.places.specs.Says.{Measured}
 use Rattle.expansion.specs.Programs.{Headed}
+use Rattle.places.specs.declared.given.Program.{Program}
 use Rattle.places.specs.declared.settling.Saturated.{Saturated}
 use Rattle.places.specs.Settling.{Filled}
 use Rattle.places.specs.Solutions.{Solution}
@@ -29,7 +29,7 @@ inside_front g k t root w front back e long told n x h b =
     let same : get_or w i 0 ≡ get_or front i 0 = ap (λ z. get_or z i 0) e ∙ get_or_append_left front back 0 i (omega (arith, half x b)) in
     let o = told n x h b in ((λ q. o.0 (ap (λ z. z / 2 ^ (x % 32) % 2) same ∙ q)), (λ c. ap (λ z. z / 2 ^ (x % 32) % 2) (sym same) ∙ o.1 c))
 
-module _ {s : List ℕ} {h : Header} {r : Saturated} {g : Prog} (e : Headed s h g) (x : Filled s h r) where
+module _ {p : Program} {r : Saturated} {g : Prog} (e : Headed p.bytes.now p.header g) (x : Filled p r) where
   abbrev K : ℕ
   K = 2 ^ g.shared
 

@@ -1,9 +1,9 @@
 -- What solving a program leaves in the work memory, whole, so that its entries can be ranked.
-use Rattle.std.specs.Prelude.{ℕ, ◌^◌, ◌≤◌, List, length}
+use Rattle.std.specs.Prelude.{ℕ, ◌^◌, List}
 use Rattle.saturation.specs.System as engine
 use Rattle.program.specs.declared.programs.Header.{Header}
 use Rattle.program.specs.Program.{Prog}
-use Rattle.program.specs.Table.{total, wants}
+use Rattle.program.specs.Table.{total}
 use Rattle.expansion.specs.Programs.{Headed}
 use Rattle.expansion.specs.Words.{Upto}
 use Rattle.expansion.specs.Sites.{SitesAre}
@@ -17,8 +17,3 @@ pub record Solution (g : Prog) (starts words sites : List ℕ) (count : ℕ) (se
 -- whichever program the bytes are
 abbrev pub Settled : List ℕ → Header → List ℕ → List ℕ → List ℕ → ℕ → List ℕ → Type 0
 Settled s h starts words sites count sets = (g : Prog) → Headed s h g → Solution g starts words sites count sets
-
--- the bytes are g, and there are enough work words
-pub record Lent (s : List ℕ) (h : Header) (work : List ℕ) (g : Prog) : Type 0 where
-  pub headed : Headed s h g
-  pub work_long : wants g ≤ length work

@@ -3,15 +3,9 @@ ghost use Rattle.std.specs.Prelude.{◌≡◌, ◌<◌};
 ghost use Rattle.places.specs.Accepting.{Accepted};
 ghost use Rattle.places.specs.declared.accepting.Refused.TheVariants.{NoProgram};
 
-use program::programs::{Header, read};
+use crate::given::Program;
+use program::programs::read;
 use program::refusals::Refusal;
-
-// A program that was read: its bytes, and what is known of it.
-#[derive(Clone, Copy)]
-pub struct Program<'b> {
-    pub bytes: &'b [u8],
-    pub header: Header,
-}
 
 // Why bytes and work words are refused.
 #[derive(Clone, Copy, PartialEq, Debug)]

@@ -12,6 +12,7 @@ use measuring::measure;
 use solving::tell;
 
 mod accepting;
+mod given;
 mod measuring;
 mod memory;
 mod settling;

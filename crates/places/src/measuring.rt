@@ -1,10 +1,10 @@
 // From a solved program to how many procedures can wait at once.
+ghost use Rattle.std.specs.Prelude.{◌≤◌, length};
 ghost use Rattle.program.specs.Program.{Prog};
-ghost use Rattle.places.specs.Solutions.{Lent};
 ghost use Rattle.places.specs.Says.{Measured};
 ghost use Rattle.expansion.specs.Programs.{Headed};
 
-use crate::accepting::Program;
+use crate::given::Program;
 use crate::settling::{MOST_STARTS, Saturated, settle};
 use program::programs::MOST_PROCEDURES;
 use ranking::rank;
@@ -13,7 +13,7 @@ use ranking::rank;
 // many work words as it wants. Of the sets, those of returns, which stand behind those of entries, give their words
 // to count calls.
 pub fn measure(program: Program, work: &mut [u32]) -> Option<u64>
-    requires { (g : Prog) × Lent program.bytes.now program.header work.old g }
+    requires { program.header.work ≤ length work.old }
     ensures { (g : Prog) → Headed program.entry.bytes.now program.entry.header g → Measured g result }
 {
     let procs = program.header.procs;

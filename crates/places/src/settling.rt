@@ -1,11 +1,9 @@
 // Solving a program, for the table and for the depth: its words, its call places and its sets, in lent words.
-ghost use Rattle.std.specs.Prelude.{◌≡◌, ◌+◌, length};
-ghost use Rattle.program.specs.Program.{Prog};
-ghost use Rattle.places.specs.Solutions.{Lent};
+ghost use Rattle.std.specs.Prelude.{◌≡◌, ◌+◌, ◌≤◌, length};
 ghost use Rattle.places.specs.Settling.{Filled};
 ghost use Rattle.places.specs.Solving.{Solved};
 
-use crate::accepting::Program;
+use crate::given::Program;
 use crate::memory::{Memory, divide};
 use expansion::programs::{expand, list_bases};
 use expansion::sites::list_sites;
@@ -36,10 +34,10 @@ pub fn settle<'w>(
     starts: &'w mut [u32],
     work: &'w mut [u32],
 ) -> Saturated<'w>
-    requires lent { (g : Prog) × Lent program.bytes.now program.header work.old g }
+    requires room { program.header.work ≤ length work.old }
     requires bases_long { length bases.old ≡ program.header.procs }
     requires starts_long { length starts.old ≡ program.header.procs + 1 }
-    ensures filled { Filled program.entry.bytes.now program.entry.header result }
+    ensures filled { Filled program.entry result }
     ensures solved { Solved program.entry.bytes.now program.entry.header result.sets.now }
 {
     let Program { bytes, header } = program;

@@ -2,11 +2,10 @@
 ghost use Rattle.std.specs.Prelude.{◌≡◌, ◌+◌, ◌*◌, ◌<◌, ◌≤◌, length};
 ghost use Rattle.program.specs.Program.{Prog};
 ghost use Rattle.places.specs.Solving.{Tells, Written, Parts};
-ghost use Rattle.places.specs.Solutions.{Lent};
 ghost use Rattle.places.specs.Says.{Table};
 ghost use Rattle.expansion.specs.Programs.{Headed};
 
-use crate::accepting::Program;
+use crate::given::Program;
 use crate::settling::{MOST_STARTS, Saturated, settle};
 use program::programs::MOST_PROCEDURES;
 use saturation::bits::is_empty;
@@ -45,7 +44,7 @@ pub fn write_table(sets: &[u32], bases: &[u32], table: &mut [u8])
 
 // Tells the table of a program, in a slice that is as long as it. There are as many work words as it wants.
 pub fn tell(program: Program, table: &mut [u8], work: &mut [u32])
-    requires lent { (g : Prog) × Lent program.bytes.now program.header work.old g }
+    requires room { program.header.work ≤ length work.old }
     requires long { length table.old ≡ program.header.table }
     ensures { (g : Prog) → Headed program.entry.bytes.now program.entry.header g → Table g table.new }
 {

@@ -1,14 +1,16 @@
 -- `measure`: what ranking asks of the words of a solved program, and what it tells.
 use Rattle.std.proofs.Common.{arith}
 use Rattle.program.proofs.Proved.{laws}
+use Rattle.places.proofs.Reading.{read_one}
 use Rattle.places.proofs.Ranking.{fine_here, aligned_here, grouped_here, starts_here, told_here, measured}
 use Rattle.places.proofs.measuring.measure.Goals as goal
 
 pub rank-requires : goal.rank-requires
 rank-requires c =
-    let e = c.requires.1.headed in
+    let read = read_one c.args.program.read in
+    let e = read.1 in
     let x = c.settle-sets.ensures.filled in
-    let small = laws.small_table _ c.requires.0 e.reads in
+    let small = laws.small_table _ read.0 e.reads in
     let parts = c.split_at_mut-entries.ensures in
     record {
       known = record {

@@ -1,25 +1,39 @@
-use Rattle.std.proofs.Common.{refl, arith}
+use Rattle.std.proofs.Common.{sym, refl, arith, length-take}
 use Rattle.program.proofs.Kept.{good}
+use Rattle.places.proofs.Reading.{read_one}
 use Rattle.places.proofs.Telling.{wanted, nodes_small}
 use Rattle.places.proofs.Solved.{sites_cut, fine_at, sited_at, starts_root, settled_by, solved_by}
 use Rattle.places.proofs.settling.settle.Goals as goal
 
 pub divide-words-requires : goal.divide-words-requires
-divide-words-requires c = let e = c.requires.lent.1 in omega (arith, wanted e.headed _ refl, e.work_long)
+divide-words-requires c = let e = (read_one c.args.program.read).1 in omega (arith, wanted e _ refl, e.header.work, c.requires.room)
 
 pub list_bases-requires : goal.list_bases-requires
-list_bases-requires c = let e = c.requires.lent.1 in (c.requires.lent.0, e.headed, omega (arith, c.requires.bases_long, e.headed.header.procs))
+list_bases-requires c = let r = read_one c.args.program.read in (r.0, r.1, omega (arith, c.requires.bases_long, r.1.header.procs))
 
 pub list_sites-count-requires : goal.list_sites-count-requires
 list_sites-count-requires c =
-    let g = c.requires.lent.0 in
-    let e = c.requires.lent.1 in
-    (g, record { headed = e.headed; begins = c.list_bases.ensures g e.headed }, omega (arith, c.requires.starts_long, e.headed.header.procs), omega (arith, wanted e.headed _ refl, e.work_long, c.divide-words.ensures.sites))
+    let r = read_one c.args.program.read in
+    let e = r.1 in
+    (r.0, record { headed = e; begins = c.list_bases.ensures r.0 e }, omega (arith, c.requires.starts_long, e.header.procs), omega (arith, wanted e _ refl, e.header.work, c.requires.room, c.divide-words.ensures.sites))
+
+pub expand-requires-clause-some : goal.expand-requires-clause-some
+expand-requires-clause-some c =
+    let r = read_one c.args.program.read in
+    let h = r.1.header in
+    (r.0, r.1, omega (arith, c.requires.starts_long, h.procs, c.list_sites-count.auto.starts), omega (arith, c.divide-words.ensures.words, h.table))
+
+pub slice_bounds-system-end : goal.slice_bounds-system-end
+slice_bounds-system-end c = let r = read_one c.args.program.read in sym (simp length-take (omega (arith, (c.list_sites-count.ensures r.0 r.1).within)))
+
+pub values-requires : goal.values-requires
+values-requires c = let r = read_one c.args.program.read in omega (arith, r.1.reads.few, r.1.header.shared)
 
 pub saturate-requires : goal.saturate-requires
 saturate-requires c =
-    let g = c.requires.lent.0 in
-    let e = c.requires.lent.1.headed in
+    let r = read_one c.args.program.read in
+    let g = r.0 in
+    let e = r.1 in
     let d = c.divide-words.ensures in
     record {
       ready = record {

@@ -1,6 +1,7 @@
 -- `tell`: a solved program's sets tell what is reached, and the table says what the sets tell.
 use Rattle.std.proofs.Common.{sym, ◌∙◌, subst, arith}
 use Rattle.places.specs.Solving.{Written}
+use Rattle.places.proofs.Reading.{read_one}
 use Rattle.places.proofs.Telling.{parts, table_of}
 use Rattle.places.proofs.solving.tell.Goals as goal
 
@@ -8,7 +9,7 @@ pub write_table-requires : goal.write_table-requires
 write_table-requires c =
     let x = c.settle-sets.ensures.filled in
     record {
-      parts = parts c.requires.lent.1.headed _ _ x.bases_long c.requires.long x.based;
+      parts = parts (read_one c.args.program.read).1 _ _ x.bases_long c.requires.long x.based;
       long = omega (arith, c.requires.long, x.sets_long);
     }
 
