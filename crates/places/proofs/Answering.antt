@@ -1,5 +1,5 @@
--- Each answer of `know` and of `depth`, from what reading says and from what was told or measured.
-use Rattle.std.proofs.Common.{◌≡◌, ℕ, ◌<◌, ◌≤◌, List, ◌++◌, length, take, drop, refl, ap, ◌∙◌, subst, arith}
+-- Each answer of `know` and of `depth`, from what is found of the bytes and the words, and from what was told or measured.
+use Rattle.std.proofs.Common.{◌≡◌, ℕ, ◌<◌, ◌≤◌, List, ◌++◌, length, take, drop, Err, refl, ap, ◌∙◌, subst, arith}
 use Rattle.std.proofs.lemmas.List.{take_at, drop_at}
 use Rattle.program.specs.declared.programs.Header.{Header}
 use Rattle.program.specs.Program.{Prog}
@@ -7,23 +7,33 @@ use Rattle.program.specs.Rows.{Reads}
 use Rattle.expansion.specs.Programs.{Headed}
 use Rattle.program.specs.Table.{wants}
 use Rattle.program.proofs.Proved.{laws, waits_by_calls}
+use Rattle.places.specs.declared.accepting.Refused.{Refused}
+use Rattle.places.specs.declared.accepting.Refused.TheVariants as refusal
+use Rattle.places.specs.Accepting.{Accepted}
 use Rattle.places.specs.declared.Known.TheVariants.{Told, NoProgram, OutFull, Few}
 use Rattle.places.specs.declared.Deep.TheVariants.{AtMost, Endless, Unread, Short}
 use Rattle.places.specs.Says.{Table, Bounded, Unbounded, KnownPost, DeepPost}
 
-pub no_program : (s o : List ℕ) (w : ℕ) → ((g : Prog) → Reads s g → ⊥) → KnownPost s o o w NoProgram
-no_program s o w n = record { says = (n, refl); few = ((λ h. absurd (n h.0 h.1)), (λ e. absurd (cc))); laws = laws }
+module _ (s : List ℕ) (w : ℕ) {e : Refused} (refused : Accepted s w (Err e)) where
+  none : e ≡ refusal.NoProgram → (g : Prog) → Reads s g → ⊥
+  none q = subst (λ z. Accepted s w (Err z)) q refused
 
-pub few : (s o : List ℕ) (w : ℕ) → ((g : Prog) × Reads s g × (w < wants g)) → KnownPost s o o w Few
-few s o w h = record { says = refl; few = ((λ _. refl), (λ _. h)); laws = laws }
+  many : e ≡ refusal.FewWords → (g : Prog) × Reads s g × (w < wants g)
+  many q = subst (λ z. Accepted s w (Err z)) q refused
 
-pub unread : (s : List ℕ) (w : ℕ) → ((g : Prog) → Reads s g → ⊥) → DeepPost s w Unread
-unread s w n = record { says = n; short = ((λ h. absurd (n h.0 h.1)), (λ e. absurd (cc))); laws = laws; waits = waits_by_calls }
+  pub no_program : e ≡ refusal.NoProgram → (o : List ℕ) → KnownPost s o o w NoProgram
+  no_program q o = record { says = (none q, refl); few = ((λ h. absurd (none q h.0 h.1)), (λ f. absurd (cc))); laws = laws }
 
-pub short : (s : List ℕ) (w : ℕ) → ((g : Prog) × Reads s g × (w < wants g)) → DeepPost s w Short
-short s w h = record { says = tt; short = ((λ _. refl), (λ _. h)); laws = laws; waits = waits_by_calls }
+  pub few : e ≡ refusal.FewWords → (o : List ℕ) → KnownPost s o o w Few
+  few q o = record { says = refl; few = ((λ _. refl), (λ _. many q)); laws = laws }
 
--- and with the bytes b of a program that was read
+  pub unread : e ≡ refusal.NoProgram → DeepPost s w Unread
+  unread q = record { says = none q; short = ((λ h. absurd (none q h.0 h.1)), (λ f. absurd (cc))); laws = laws; waits = waits_by_calls }
+
+  pub short : e ≡ refusal.FewWords → DeepPost s w Short
+  short q = record { says = tt; short = ((λ _. refl), (λ _. many q)); laws = laws; waits = waits_by_calls }
+
+-- with the bytes b of a program that was read
 module _ {s b : List ℕ} (same : b ≡ s) {h : Header} {g : Prog} (r : Headed b h g) (w : ℕ) (l : h.work ≤ w) where
   here : Headed s h g
   here = subst (λ z. Headed z h g) same r

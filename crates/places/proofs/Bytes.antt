@@ -1,16 +1,10 @@
--- Bytes written one after another, and part before part.
-use Rattle.std.proofs.Common.{◌≡◌, ℕ, ◌+◌, ◌-◌, ◌<◌, ◌≤◌, List, [], ◌∷◌, ◌++◌, length, get_or, take, drop, set, sym, refl, ap, ◌∙◌, subst, inl, inr, arith, length-append, length-drop, length-take, get_or-set_other, get_or-set_same, rules}
+-- Bytes written part before part.
+use Rattle.std.proofs.Common.{◌≡◌, ℕ, ◌+◌, ◌-◌, ◌<◌, ◌≤◌, List, [], ◌∷◌, ◌++◌, length, get_or, take, drop, sym, ap, ◌∙◌, subst, inl, inr, arith, length-append, length-drop, length-take, rules}
 use borrow.Rule.Slice.PartMut.{put_mid}
 use Rattle.std.proofs.Math.Seq.{get_or-append_seam}
 use Rattle.std.proofs.lemmas.List.{places, get_or_append_left}
-use Rattle.std.proofs.lemmas.Bool.{cases_eq, cases_lt}
+use Rattle.std.proofs.lemmas.Bool.{cases_lt}
 use Rattle.places.specs.Solving.{Tells, Written, Parts}
-
-pub written_more : (w : List ℕ) (base : ℕ) (t : List ℕ) (i b : ℕ) → i < length t → Tells w (base + i) b → Written w base t i → Written w base (set t i b) (i + 1)
-written_more w base t i b l k h j m = elim (cases_eq j i) [
-  | inl e ↦ subst (λ z. Tells w (base + z) (get_or (set t i b) z 0)) (sym e) (subst (Tells w (base + i)) (sym (get_or-set_same t i b 0 l)) k)
-  | inr e ↦ subst (Tells w (base + j)) (sym (get_or-set_other t i j b 0 e)) (h j (omega arith))
-]
 
 -- a part is written before what is
 part_written : (w t ys : List ℕ) (from end : ℕ) → from ≤ end → end ≤ length t → length ys ≡ end - from → ((i : ℕ) → end ≤ i → i < length t → Tells w i (get_or t i 0)) → Written w from ys (end - from) →
@@ -29,17 +23,6 @@ pub record Parted (w bases t rest : List ℕ) (end : ℕ) : Type 0 where
   pub at : length rest < length bases → end ≡ get_or bases (length rest) 0
   pub last : length bases ≤ length rest → end ≡ length t
   pub done : (i : ℕ) → end ≤ i → i < length t → Tells w i (get_or t i 0)
-
-pub none_parted : (w bases t rest : List ℕ) → rest ≡ bases → Parted w bases t rest (length t)
-none_parted w bases t rest e =
-    let n = ap length e in
-    record {
-      within = omega (arith, n);
-      same = λ f l. ap (λ z. get_or z f 0) e;
-      at = λ l. absurd (omega (arith, n));
-      last = λ l. refl;
-      done = λ i l m. absurd (omega arith);
-    }
 
 -- the last of the parts that are left, which begins at x, is written next
 module _ {w bases t rest : List ℕ} {end : ℕ} (left : List ℕ) (x : ℕ) (parts : Parts bases (length bases) (length t)) (p : Parted w bases t rest end) (e : rest ≡ left ++ x ∷ []) where
@@ -68,8 +51,3 @@ module _ {w bases t rest : List ℕ} {end : ℕ} (left : List ℕ) (x : ℕ) (pa
         last = λ l. absurd (omega (arith, long, p.within));
         done = λ i l m. part_written w t ys x end bounds.0 bounds.1 (n ∙ part_long) p.done (subst (Written w x ys) part_long k) i l (omega (arith, whole));
       }
-
-pub all_parted : {w bases t rest : List ℕ} {end : ℕ} → Parts bases (length bases) (length t) → Parted w bases t rest end → length rest ≡ 0 → Written w 0 t (length t)
-all_parted {w} {bases} {t} parts p none i l =
-    let at = p.at (omega (arith, none, parts.some)) ∙ ap (λ z. get_or bases z 0) none ∙ parts.first in
-    subst (λ z. Tells w z (get_or t i 0)) (omega arith) (p.done i (omega (arith, at)) l)

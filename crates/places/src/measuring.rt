@@ -1,4 +1,4 @@
-// From a solved program to how many procedures can wait at once.
+// From a program to how many procedures can wait at once.
 ghost use Rattle.std.specs.Prelude.{◌≤◌, length};
 ghost use Rattle.program.specs.Program.{Prog};
 ghost use Rattle.places.specs.Says.{Measured};

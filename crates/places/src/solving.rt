@@ -1,4 +1,4 @@
-// From a program to the entries of each node, in lent words; and from these to the table.
+// From a program to its table.
 ghost use Rattle.std.specs.Prelude.{◌≡◌, ◌+◌, ◌*◌, ◌<◌, ◌≤◌, length};
 ghost use Rattle.program.specs.Program.{Prog};
 ghost use Rattle.places.specs.Solving.{Tells, Written, Parts};

@@ -1,15 +1,13 @@
 -- `depth`: each answer, from what is found of the bytes and the words, and from what measuring says.
-use Rattle.std.proofs.Common.{length, Err, subst}
-use Rattle.places.specs.Accepting.{Accepted}
 use Rattle.places.proofs.Reading.{read_one}
 use Rattle.places.proofs.Answering.{unread, short, bounded, endless}
 use Rattle.places.proofs.depth.Goals as goal
 
 pub returns-in-Err-NoProgram : goal.returns-in-Err-NoProgram
-returns-in-Err-NoProgram c = unread _ _ (subst (λ r. Accepted c.args.program.now (length c.args.work.now) (Err r)) c.in-Err-NoProgram.field-0-is c.in-Err-NoProgram.ensures)
+returns-in-Err-NoProgram c = unread _ _ c.in-Err-NoProgram.ensures c.in-Err-NoProgram.field-0-is
 
 pub returns-in-Err-FewWords : goal.returns-in-Err-FewWords
-returns-in-Err-FewWords c = short _ _ (subst (λ r. Accepted c.args.program.now (length c.args.work.now) (Err r)) c.in-Err-FewWords.field-0-is c.in-Err-FewWords.ensures)
+returns-in-Err-FewWords c = short _ _ c.in-Err-FewWords.ensures c.in-Err-FewWords.field-0-is
 
 pub returns-in-Some : goal.returns-in-Some
 returns-in-Some c =

@@ -1,15 +1,14 @@
 -- `know`: each answer, from what is found of the bytes and the words, and from the table that is told.
-use Rattle.std.proofs.Common.{◌++◌, length, drop, Err, sym, ◌∙◌, ap, subst}
-use Rattle.places.specs.Accepting.{Accepted}
+use Rattle.std.proofs.Common.{◌++◌, drop, sym, ◌∙◌, ap}
 use Rattle.places.proofs.Reading.{read_one}
 use Rattle.places.proofs.Answering.{no_program, few, full, told}
 use Rattle.places.proofs.know.Goals as goal
 
 pub returns-in-Err-NoProgram : goal.returns-in-Err-NoProgram
-returns-in-Err-NoProgram c = no_program _ _ _ (subst (λ r. Accepted c.args.program.now (length c.args.work.now) (Err r)) c.in-Err-NoProgram.field-0-is c.in-Err-NoProgram.ensures)
+returns-in-Err-NoProgram c = no_program _ _ c.in-Err-NoProgram.ensures c.in-Err-NoProgram.field-0-is _
 
 pub returns-in-Err-FewWords : goal.returns-in-Err-FewWords
-returns-in-Err-FewWords c = few _ _ _ (subst (λ r. Accepted c.args.program.now (length c.args.work.now) (Err r)) c.in-Err-FewWords.field-0-is c.in-Err-FewWords.ensures)
+returns-in-Err-FewWords c = few _ _ c.in-Err-FewWords.ensures c.in-Err-FewWords.field-0-is _
 
 pub returns-then-table-bytes : goal.returns-then-table-bytes
 returns-then-table-bytes c =

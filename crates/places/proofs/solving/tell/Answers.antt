@@ -1,17 +1,14 @@
 -- `tell`: a solved program's sets tell what is reached, and the table says what the sets tell.
-use Rattle.std.proofs.Common.{sym, ◌∙◌, subst, arith}
+use Rattle.std.proofs.Common.{sym, ◌∙◌, subst}
 use Rattle.places.specs.Solving.{Written}
 use Rattle.places.proofs.Reading.{read_one}
 use Rattle.places.proofs.Telling.{parts, table_of}
 use Rattle.places.proofs.solving.tell.Goals as goal
 
-pub write_table-requires : goal.write_table-requires
-write_table-requires c =
+pub write_table-requires-clause-parts : goal.write_table-requires-clause-parts
+write_table-requires-clause-parts c =
     let x = c.settle-sets.ensures.filled in
-    record {
-      parts = parts (read_one c.args.program.read).1 _ _ x.bases_long c.requires.long x.based;
-      long = omega (arith, c.requires.long, x.sets_long);
-    }
+    parts (read_one c.args.program.read).1 _ _ x.bases_long c.requires.long x.based
 
 pub returns : goal.returns
 returns c = λ g h.
