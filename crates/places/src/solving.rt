@@ -36,6 +36,7 @@ pub fn write_table(sets: &[u32], bases: &[u32], table: &mut [u8])
 {
     let mut end = table.len();
     for base in bases.iter().rev() {
+        // `as`, since `usize` has no `From<u32>`
         let from = *base as usize;
         write_part(sets, from, &mut table[from..end]);
         end = from;
