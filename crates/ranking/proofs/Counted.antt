@@ -1,9 +1,12 @@
 -- The calls at one node are counted value by value, and so node by node.
-use Rattle.std.proofs.Common.{◌≡◌, ℕ, suc, ◌+◌, ◌<◌, ◌≤◌, List, length, get_or, set, sym, ap, ◌∙◌, subst, inl, inr, add-one, arith}
+use Rattle.std.proofs.Common.{◌≡◌, ℕ, suc, ◌+◌, ◌<◌, ◌≤◌, List, length, get_or, set, sym, refl, ap, ◌∙◌, subst, inl, inr, add-one, arith}
 use Rattle.std.proofs.lemmas.List.{get_or-set_same}
 use Rattle.std.proofs.lemmas.Bool.{cases_eq}
 use Rattle.saturation.specs.Bits.{On}
 use Rattle.saturation.specs.System.{kind, proc}
+use Rattle.saturation.specs.declared.Node.{Node}
+use Rattle.saturation.specs.declared.Node.TheVariants.{Flow, Call, Return}
+use Rattle.saturation.specs.Node.{Is}
 use Rattle.ranking.specs.Calls.{CallAt, Aligned}
 use Rattle.ranking.specs.Counting.{Counts, none, one, skip, Counted}
 use Rattle.ranking.proofs.Entries.{other_word}
@@ -15,6 +18,12 @@ pub record Counting (g : List ℕ) (k t : ℕ) (w : List ℕ) (n : ℕ) (c : Lis
 
 pub counted_none : (g : List ℕ) (k t : ℕ) (w c : List ℕ) → ((i : ℕ) → get_or c i 0 ≡ 0) → Counted g k t w 0 c
 counted_none g k t w c z m x h l = subst (Counts (CallAt g t w (proc g m) x) 0) (sym (z (proc g m + x))) none
+
+-- what a node that is no call says
+pub not_call : (g : List ℕ) (n : ℕ) (v : Node) → Is g n v → ((a b : ℕ) → v ≡ Call a b → ⊥) → kind g n ≡ 1 → ⊥
+not_call g n (Flow a b) h z e = absurd (omega (arith, h.0))
+not_call g n (Call a b) h z e = z a b refl
+not_call g n (Return a b) h z e = absurd (omega (arith, h.0))
 
 -- a node that does not call
 pub counted_skip : (g : List ℕ) (k t : ℕ) (w : List ℕ) (n : ℕ) (c : List ℕ) → (kind g n ≡ 1 → ⊥) → Counted g k t w n c → Counted g k t w (n + 1) c

@@ -29,9 +29,6 @@ module _ {g : List ℕ} {k t : ℕ} (aligned : Aligned g k t) (few : k ≤ 64) {
   fewer_one : (c : ℕ) → Counts (CallAt g t w (proc g n) x) t c → (d : ℕ) × (c ≡ suc d) × Counts (CallAt g t v (proc g n) x) t d
   fewer_one c h = counts_less n within here (λ p. gone.gone p.has) (λ i e. at_other b (inl e)) (λ i e. at_only) h
 
-  pub some_left : (c : List ℕ) → Counted g k t w t c → 0 < get_or c (proc g n + x) 0
-  some_left c h = let r = fewer_one _ (h n x within b) in omega (arith, r.1)
-
   pub settle_counted : (c : List ℕ) (z : ℕ) → proc g n + x < length c → z ≡ get_or c (proc g n + x) 0 - 1 → Counted g k t w t c → Counted g k t v t (set c (proc g n + x) z)
   settle_counted c z long is h m y hm hy = elim (cases_eq (proc g m) (proc g n)) [
     | inr q ↦ other (inl q)
@@ -49,9 +46,9 @@ module _ {g : List ℕ} {k t : ℕ} (aligned : Aligned g k t) (few : k ≤ 64) {
       other d = subst (Counts (CallAt g t v (proc g m) y) t) (sym (other_word aligned c m n y x z hm within hy b d))
           (counts_same (λ i l p. at_other hy (⊎_elim (λ e. inl (λ s. e (sym p.whose ∙ ap (proc g) s))) inr d) p) (λ i l. at_only) (h m y hm hy))
 
-  module _ (bases : List ℕ) (procs : ℕ) (next after : List ℕ) where
-    pub settle_level : ((f y : ℕ) → f < procs → y < k → On after f y → On next f y ⊎ (((i : ℕ) → CallAt g t v (proc g n) x i → ⊥) × (get_or bases f 0 ≡ proc g n) × (y ≡ x))) →
-        (o : List ℕ) (r : ℕ) → Height g k t o (callee g k n) r → Level g k t o r bases procs w next → Level g k t o r bases procs v after
+  module _ (bases next after : List ℕ) where
+    pub settle_level : ((f y : ℕ) → f < length bases → y < k → On after f y → On next f y ⊎ (((i : ℕ) → CallAt g t v (proc g n) x i → ⊥) × (get_or bases f 0 ≡ proc g n) × (y ≡ x))) →
+        (o : List ℕ) (r : ℕ) → Height g k t o (callee g k n) r → Level g k t o r bases w next → Level g k t o r bases v after
     settle_level new o r tall l = record {
       fewer = λ m y p. l.fewer m y (gone.only m y p);
       settled = λ m y hm z hy p. elim (l.settled m y hm z hy p) [
@@ -70,8 +67,8 @@ module _ {g : List ℕ} {k t : ℕ} (aligned : Aligned g k t) (few : k ≤ 64) {
       ];
     }
 
-    pub settle_waiting : ((f y : ℕ) → On next f y → On after f y) → ((i : ℕ) × CallAt g t v (proc g n) x i) ⊎ ((f : ℕ) → f < procs → get_or bases f 0 ≡ proc g n → On after f x) →
-        (f y : ℕ) → f < procs → y < k → Waiting g t bases w next f y → Waiting g t bases v after f y
+    pub settle_waiting : ((f y : ℕ) → On next f y → On after f y) → ((i : ℕ) × CallAt g t v (proc g n) x i) ⊎ ((f : ℕ) → f < length bases → get_or bases f 0 ≡ proc g n → On after f x) →
+        (f y : ℕ) → f < length bases → y < k → Waiting g t bases w next f y → Waiting g t bases v after f y
     settle_waiting keep last f y hf hy (inr p) = inr (keep f y p)
     settle_waiting keep last f y hf hy (inl p) = elim (at_kept hy p.1) [
       | inl q ↦ inl (p.0, q)

@@ -45,14 +45,13 @@ Done g k t w d = (n x : ℕ) → n < t → kind g n ≡ 1 → callee g k n ≡ d
 
 -- Procedures by number: where each begins, and which call places are its own. Each node belongs to one of
 -- them, and each call stands in a place of the procedure that it calls.
-pub record Grouped (g : List ℕ) (k t : ℕ) (c bases starts : List ℕ) (procs : ℕ) : Type 0 where
-  pub some : 0 < procs
-  pub most : procs ≤ 64
-  pub based : procs ≤ length bases
-  pub started : procs < length starts
-  pub begins : (f : ℕ) → f < procs → (slice_index bases f + k ≤ t) × (proc g (slice_index bases f) ≡ slice_index bases f)
-  pub owner : (n : ℕ) → n < t → (f : ℕ) × (f < procs) × (slice_index bases f ≡ proc g n)
-  pub apart : (f h : ℕ) → f < procs → h < procs → slice_index bases f ≡ slice_index bases h → f ≡ h
-  pub listed : (f : ℕ) → f < procs → slice_index starts (f + 1) ≤ length c
+pub record Grouped (g : List ℕ) (k t : ℕ) (c bases starts : List ℕ) : Type 0 where
+  pub some : 0 < length bases
+  pub most : length bases ≤ 64
+  pub started : length bases < length starts
+  pub begins : (f : ℕ) → f < length bases → (slice_index bases f + k ≤ t) × (proc g (slice_index bases f) ≡ slice_index bases f)
+  pub owner : (n : ℕ) → n < t → (f : ℕ) × (f < length bases) × (slice_index bases f ≡ proc g n)
+  pub apart : (f h : ℕ) → f < length bases → h < length bases → slice_index bases f ≡ slice_index bases h → f ≡ h
+  pub listed : (f : ℕ) → f < length bases → slice_index starts (f + 1) ≤ length c
   pub sites : (s : ℕ) → s < length c → (site_begin c s < t) × (kind g (site_begin c s) ≡ 1) × (site_begin c s % k ≡ 0)
-  pub all : (f n : ℕ) → f < procs → n < t → kind g n ≡ 1 → first g n ≡ slice_index bases f → (s : ℕ) × (slice_index starts f ≤ s) × (s < slice_index starts (f + 1)) × (site_begin c s ≤ n) × (n < site_end g c s)
+  pub all : (f n : ℕ) → f < length bases → n < t → kind g n ≡ 1 → first g n ≡ slice_index bases f → (s : ℕ) × (slice_index starts f ≤ s) × (s < slice_index starts (f + 1)) × (site_begin c s ≤ n) × (n < site_end g c s)

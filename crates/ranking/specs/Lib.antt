@@ -2,4 +2,5 @@
 pub mod Calls
 pub mod Counting
 pub mod Levels
+pub mod Steps
 pub mod Ranks

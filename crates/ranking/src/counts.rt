@@ -3,8 +3,8 @@ ghost use Rattle.std.specs.Prelude.{◌≡◌, ◌+◌, ◌<◌};
 ghost use Rattle.saturation.specs.System.{kind};
 ghost use Rattle.ranking.specs.Counting.{Counted, Countable};
 
-use saturation::System;
 use saturation::bits::has;
+use saturation::{Node, System};
 
 // Counts the call at `n`, for each entry that can be inside there.
 fn count_call(system: System, sets: &[u32], counts: &mut [u32], n: usize)
@@ -14,7 +14,7 @@ fn count_call(system: System, sets: &[u32], counts: &mut [u32], n: usize)
     requires counted { Counted system.graph.now system.shared system.nodes sets.now n counts.old }
     ensures { Counted system.entry.graph.now system.entry.shared system.entry.nodes sets.now (n + 1) counts.new }
 {
-    let base = system.graph[4 * n + 3] as usize;
+    let base = system.base(n);
     for x in 0..system.shared {
         if has(sets, n, x) {
             counts[base + x] += 1;
@@ -29,7 +29,7 @@ pub fn count_calls(system: System, sets: &[u32], counts: &mut [u32])
 {
     counts.fill(0);
     for n in 0..system.nodes {
-        if system.graph[4 * n] == 1 {
+        if let Node::Call { .. } = system.node(n) {
             count_call(system, sets, counts, n);
         }
     }

@@ -6,15 +6,14 @@ use crate::Procedures;
 use saturation::System;
 use saturation::bits::add;
 
-// Adds the entries of procedure `f` that have no call; their counts begin at `base`.
-fn add_idle(counts: &[u32], base: usize, shared: usize, level: &mut [u32], f: usize)
-    requires counts { base + shared ≤ length counts.now }
-    requires values { shared ≤ 64 }
+// Adds the entries of procedure `f` that have no call; `counts` are theirs.
+fn add_idle(counts: &[u32], level: &mut [u32], f: usize)
+    requires values { length counts.now ≤ 64 }
     requires within { 2 * f + 1 < length level.old }
-    ensures { IdleAdded shared counts.now base f level.old level.new }
+    ensures { IdleAdded (length counts.now) counts.now f level.old level.new }
 {
-    for x in 0..shared {
-        if counts[base + x] == 0 {
+    for (x, count) in counts.iter().enumerate() {
+        if *count == 0 {
             add(level, f, x);
         }
     }
@@ -26,14 +25,9 @@ pub(crate) fn first_level(system: System, procedures: Procedures, counts: &[u32]
     ensures { Idle system.entry procedures.entry counts.now level.new }
 {
     level.fill(0);
-    for f in 0..procedures.count {
-        add_idle(
-            counts,
-            procedures.bases[f] as usize,
-            system.shared,
-            level,
-            f,
-        );
+    for (f, base) in procedures.bases.iter().enumerate() {
+        let base = *base as usize;
+        add_idle(&counts[base..base + system.shared], level, f);
     }
 }
 
@@ -42,10 +36,5 @@ pub(crate) fn is_clear(words: &[u32]) -> bool
     ensures yes { result ≡ true → (i : ℕ) → i < length words.now → slice_index words.now i ≡ 0 }
     ensures no { result ≡ false → (i : ℕ) × (0 < slice_index words.now i) }
 {
-    for word in words {
-        if *word != 0 {
-            return false;
-        }
-    }
-    true
+    words.iter().all(|word| *word == 0)
 }

@@ -6,16 +6,14 @@
 // calls left tells when an entry has none: so each call is looked at twice, however deep calls can be.
 #![tactic(auto)]
 
-ghost use Rattle.std.specs.Prelude.{◌≡◌, ◌*◌, ◌^◌, ◌≤◌, length, slice_index};
+ghost use Rattle.std.specs.Prelude.{◌≡◌, ◌≢◌, ℕ, ◌+◌, ◌*◌, ◌^◌, ◌<◌, ◌≤◌, length, slice_index};
 ghost use Rattle.saturation.specs.System.{Starts, TellsInside};
 ghost use Rattle.ranking.specs.Levels.{Known};
 ghost use Rattle.ranking.specs.Ranks.{Ranked};
 
-use counts::count_calls;
-use first::{first_level, is_clear};
-use levels::settle_level;
+use levels::Ranker;
 use saturation::System;
-use saturation::bits::has;
+use std::ops::Range;
 
 mod counts;
 mod first;
@@ -27,7 +25,29 @@ mod levels;
 pub struct Procedures<'b, 's> {
     pub bases: &'b [u32],
     pub starts: &'s [u32],
-    pub count: usize,
+}
+
+impl Procedures<'_, '_> {
+    // The number of the procedure that begins at node `base`.
+    fn at(&self, base: usize) -> usize
+        requires { ((f : ℕ) → f < length self.now.bases.now → slice_index self.now.bases.now f ≢ base) → ⊥ }
+        ensures within { result < length self.now.bases.now }
+        ensures is { slice_index self.now.bases.now result ≡ base }
+    {
+        let Some(f) = self.bases.iter().position(|b| *b as usize == base) else {
+            unreachable!()
+        };
+        f
+    }
+
+    // The numbers of the call places of procedure `f`.
+    fn places(&self, f: usize) -> Range<usize>
+        requires { f + 1 < length self.now.starts.now }
+        ensures start { result.start ≡ slice_index self.now.starts.now f }
+        ensures end { result.end ≡ slice_index self.now.starts.now (f + 1) }
+    {
+        self.starts[f] as usize..self.starts[f + 1] as usize
+    }
 }
 
 // The most calls that can stand one within another, where procedure 0 begins with shared value 0; none if any
@@ -48,19 +68,6 @@ pub fn rank(
     requires told { TellsInside system.graph.now system.shared system.nodes (slice_index procedures.bases.now 0) sets.old }
     ensures { Ranked system.entry.graph.now system.entry.shared (slice_index procedures.entry.bases.now 0) result }
 {
-    count_calls(system, sets, counts);
-    first_level(system, procedures, counts, level);
-    let mut height: u64 = 0;
-    'levels: loop {
-        if has(level, 0, 0) {
-            break 'levels Some(height);
-        }
-        next.fill(0);
-        settle_level(system, procedures, sets, counts, level, next);
-        if is_clear(next) {
-            break 'levels None;
-        }
-        level.copy_from_slice(next);
-        height += 1;
-    }
+    let mut ranker = Ranker::new(system, procedures, sets, counts, level, next);
+    ranker.height()
 }

@@ -7,56 +7,43 @@ use Rattle.std.proofs.lemmas.List.{get_or-set_same, get_or-set_other}
 use Rattle.std.proofs.lemmas.Bool.{cases_eq, cases_lt, cases_order, true≢false}
 use Rattle.std.proofs.lemmas.Nat.{pow_pos, pow-add, pow_below, div_below, one_shl, leading_top}
 use Rattle.saturation.specs.Bits.{Bit, Merged}
-use Rattle.saturation.specs.Marks.{base, SummarizedBut, More, In, total, Marked, Taken}
+use Rattle.saturation.specs.Marks.{At, Levels, SameSize, More, Set, total, Marked, Taken}
 use Rattle.saturation.proofs.Nodes.{pow_bit, pow_odd}
 
-pub more_none : (m : List ℕ) → More m m
-more_none m = record { stay = λ j o. o; summary = λ c o. o }
+pub same_size : {m l u : Levels} → SameSize m l → SameSize l u → SameSize m u
+same_size p q = record { nodes = q.nodes ∙ p.nodes; words = q.words ∙ p.words }
 
-pub more_both : {m l u : List ℕ} → More m l → More l u → More m u
-more_both p q = record { stay = λ j o. q.stay j (p.stay j o); summary = λ c o. q.summary c (p.summary c o) }
+pub more_none : (m : Levels) → More m m
+more_none m = record { stay = λ j o. o; summary = λ c o. o; size = record { nodes = refl; words = refl } }
+
+pub more_both : {m l u : Levels} → More m l → More l u → More m u
+more_both p q = record { stay = λ j o. q.stay j (p.stay j o); summary = λ c o. q.summary c (p.summary c o); size = same_size p.size q.size }
 
 -- one mark
-module _ (n i z : ℕ) {m u : List ℕ} (a : i ≡ n / 32) (b : z ≡ n % 32) (g : Merged m u i ((1 * 2 ^ (31 - z)) % 2 ^ 32)) where
-  one : Merged m u (n / 32) (2 ^ (31 - n % 32))
-  one = let g1 : Merged m u i (2 ^ (31 - z)) = subst (λ w. Merged m u i w) (one_shl (31 - z) 32 (omega arith)) g in
-      subst (λ y. Merged m u (n / 32) (2 ^ (31 - y))) b (subst (λ j. Merged m u j (2 ^ (31 - z))) a g1)
+module _ (n : ℕ) {t u : List ℕ} (g : Merged t u (n / 32) ((1 * 2 ^ (31 - n % 32)) % 2 ^ 32)) where
+  one : Merged t u (n / 32) (2 ^ (31 - n % 32))
+  one = subst (λ w. Merged t u (n / 32) w) (one_shl (31 - n % 32) 32 (omega arith)) g
 
-  mark_got : In u n
-  mark_got = one.got (31 - n % 32) (pow_bit (31 - n % 32))
-
-  mark_only : (j : ℕ) → In u j → In m j ⊎ (j ≡ n)
-  mark_only j o = elim (one.only (j / 32) (31 - j % 32) o) [
+  set_only : (j : ℕ) → At u j → At t j ⊎ (j ≡ n)
+  set_only j o = elim (one.only (j / 32) (31 - j % 32) o) [
     | inl p ↦ inl p
     | inr p ↦ inr (omega (arith, pow_odd (31 - n % 32) (31 - j % 32) p.1))
   ]
 
+  pub set_set : ((i y : ℕ) → Bit t i y → Bit u i y) → Set t u n
+  set_set k = record { got = one.got (31 - n % 32) (pow_bit (31 - n % 32)); kept = λ j. k _ _; only = set_only }
+
 -- a node and its word
-module _ (n : ℕ) {m l u : List ℕ} (h : n < base m) (e : length u ≡ length m)
-    (g : Merged m l (n / 32) ((1 * 2 ^ (31 - n % 32)) % 2 ^ 32)) (k : (i y : ℕ) → Bit m i y → Bit l i y)
-    (g1 : Merged l u (length m / 33 * 32 + n / 1024) ((1 * 2 ^ (31 - n / 32 % 32)) % 2 ^ 32)) (k1 : (i y : ℕ) → Bit l i y → Bit u i y) where
-  top_got : In u (base m + n / 32)
-  top_got = mark_got (base m + n / 32) _ _ (omega arith) (omega arith) g1
-
-  top_only : (j : ℕ) → In u j → In l j ⊎ (j ≡ base m + n / 32)
-  top_only = mark_only (base m + n / 32) _ _ (omega arith) (omega arith) g1
-
-  mark_summary : (c : ℕ) → SummarizedBut c m → SummarizedBut c u
-  mark_summary c p j b d o = let move : In u (base m + j / 32) → In u (base u + j / 32) = subst (λ x. In u (1024 * (x / 33) + j / 32)) (sym e) in
-      elim (top_only j o) [
-        | inr q ↦ absurd (omega arith)
-        | inl o1 ↦ elim (mark_only n _ _ refl refl g j o1) [
-          | inl o2 ↦ move (k1 _ _ (k _ _ (p j (omega arith) d o2)))
-          | inr q ↦ move (subst (λ i. In u (base m + i / 32)) (sym q) top_got)
-        ]
-      ]
-
-  pub mark_marked : Marked m u n true
-  mark_marked = record {
-    kept = record { stay = λ j o. k1 _ _ (k _ _ o); summary = mark_summary };
-    got = λ _. k1 _ _ (mark_got n _ _ refl refl g);
-    same = λ e. absurd (true≢false e);
-  }
+pub mark_marked : (n : ℕ) {a b c d : List ℕ} → Set a b n → Set c d (n / 32) → length b ≡ length a → length d ≡ length c → Marked (record { nodes = a; words = c }) (record { nodes = b; words = d }) n true
+mark_marked n {d = d} s t e f = record {
+  kept = record {
+    stay = s.kept;
+    summary = λ c p j ne o. elim (s.only j o) [ inl q ↦ t.kept _ (p j ne q) | inr q ↦ subst (λ i. At d (i / 32)) (sym q) t.got ];
+    size = record { nodes = e; words = f };
+  };
+  got = λ _. s.got;
+  same = λ e. absurd (true≢false e);
+}
 
 -- the top bit of a word
 module _ (w j : ℕ) (low : 2 ^ j ≤ w) (high : w < 2 ^ suc j) where

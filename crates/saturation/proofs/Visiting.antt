@@ -1,13 +1,14 @@
 -- What each step of a visit leaves: bits that are true, and nodes that are closed or marked.
-use Rattle.std.proofs.Common.{◌≡◌, ℕ, ◌+◌, ◌*◌, ◌%◌, ◌^◌, ◌<◌, ◌≤◌, Bool, true, ◌||◌, ◌≢◌, List, length, get_or, sym, refl, ap, ◌∙◌, subst, inl, inr, add-mul, arith, below_more}
-use Rattle.std.proofs.lemmas.Bool.{or_parts, cases_eq, cases_Bool}
+use Rattle.std.proofs.Common.{◌≡◌, ℕ, ◌+◌, ◌*◌, ◌%◌, ◌^◌, ◌<◌, ◌≤◌, Bool, false, ◌||◌, ◌≢◌, List, length, get_or, sym, refl, ap, ◌∙◌, subst, inl, inr, add-mul, arith, below_more}
+use Rattle.std.proofs.lemmas.Bool.{or_parts, cases_eq, cases_Bool, true≢false}
 use Rattle.std.proofs.lemmas.Nat.{mul-le}
 use Rattle.saturation.specs.Bits.{On, room, Grew, Joined, Added}
 use Rattle.saturation.specs.System.{kind, first, second, proc, words, Fine}
-use Rattle.saturation.specs.Marks.{In, total, Marked, Taken}
+use Rattle.saturation.specs.Marks.{At, In, Empty, Levels, total, Marked, NodeTaken, WordTaken}
+use Rattle.saturation.specs.Engine.{remaining}
 use Rattle.saturation.specs.Visits.{Sound, Closed, Callers, Covered, Progress, Visit, Resume}
 use Rattle.saturation.proofs.Nodes.{grew_both}
-use Rattle.saturation.proofs.Marking.{total_le, more_both}
+use Rattle.saturation.proofs.Marking.{total_le, more_none, more_both}
 use Rattle.saturation.proofs.Complete.{below, begins, keeps, callee_mod}
 use Rattle.saturation.proofs.Soundness.{no_bits, sound_join, sound_can, sound_return, resume_sound}
 use Rattle.saturation.proofs.Closure.{ResumeClosed, ReturnClosed, closed_flow, closed_call, closed_empty, still}
@@ -28,7 +29,7 @@ pub own : {w v : List ℕ} {n to : ℕ} → Joined w v n to → (x : ℕ) → x 
 own {n = n} j x b o = elim (j.only n x b o) [ inl p ↦ p | inr p ↦ p.1 ]
 
 module _ {g : List ℕ} {k t : ℕ} (fine : Fine g k t) where
-  pub progress_both : {w m v l u o : List ℕ} {p q : Bool} → Progress g k t w m v l p → Progress g k t v l u o q → Progress g k t w m u o (p || q)
+  pub progress_both : {w v u : List ℕ} {m l o : Levels} {p q : Bool} → Progress g k t w m v l p → Progress g k t v l u o q → Progress g k t w m u o (p || q)
   progress_both {p = p} {q = q} a b = record {
     grew = grew_both a.grew b.grew;
     same = λ e. b.same (or_parts p q e).1 ∙ a.same (or_parts p q e).0;
@@ -38,7 +39,7 @@ module _ {g : List ℕ} {k t : ℕ} (fine : Fine g k t) where
   }
 
   -- bits came to one node, which is marked
-  pub progress_node : {w v m l : List ℕ} {new : Bool} (to : ℕ) → to < t → Only w v to → Grew w v new → Marked m l to new →
+  pub progress_node : {w v : List ℕ} {m l : Levels} {new : Bool} (to : ℕ) → to < t → Only w v to → Grew w v new → Marked m l to new →
       ((root : ℕ) → Sound g k t root w → Sound g k t root v) → Progress g k t w m v l new
   progress_node {w} {v} {m} {l} {new} to b only grew marked sound = record {
     grew = grew;
@@ -58,7 +59,7 @@ module _ {g : List ℕ} {k t : ℕ} (fine : Fine g k t) where
   }
 
   -- bits came to what an entry returns with, and its calls are marked
-  pub progress_return : {w v m l : List ℕ} {new : Bool} (e : ℕ) → Only w v (t + e) → Grew w v new → Callers g k t e v m l new →
+  pub progress_return : {w v : List ℕ} {m l : Levels} {new : Bool} (e : ℕ) → Only w v (t + e) → Grew w v new → Callers g k t e v m l new →
       ((root : ℕ) → Sound g k t root w → Sound g k t root v) → Progress g k t w m v l new
   progress_return {w} {v} {m} {l} {new} e only grew marked sound = record {
     grew = grew;
@@ -81,7 +82,7 @@ module _ {g : List ℕ} {k t : ℕ} (fine : Fine g k t) where
   }
 
 module _ {g : List ℕ} {k t : ℕ} (fine : Fine g k t) (n : ℕ) (h : n < t) where
-  pub visit_flow : {w v u m l o : List ℕ} {p q : Bool} → kind g n ≡ 0 → Joined w v n (first g n) → Grew w v p → Marked m l (first g n) p →
+  pub visit_flow : {w v u : List ℕ} {m l o : Levels} {p q : Bool} → kind g n ≡ 0 → Joined w v n (first g n) → Grew w v p → Marked m l (first g n) p →
       Joined v u n (second g n) → Grew v u q → Marked l o (second g n) q → Visit g k t n w m u o (p || q)
   visit_flow z j grew marked i grow marks = let f = fine.flows n h z in record {
     progress = progress_both fine
@@ -91,7 +92,7 @@ module _ {g : List ℕ} {k t : ℕ} (fine : Fine g k t) (n : ℕ) (h : n < t) wh
   }
 
   -- one return behind a call
-  pub resume_progress : {w v u m l o : List ℕ} {new more : Bool} (y : ℕ) → y < k → kind g n ≡ 1 → On v (t + (first g n + n % k)) y →
+  pub resume_progress : {w v u : List ℕ} {m l o : Levels} {new more : Bool} (y : ℕ) → y < k → kind g n ≡ 1 → On v (t + (first g n + n % k)) y →
       Joined v u n (second g n + y) → Grew v u more → Marked l o (second g n + y) more →
       Progress g k t w m v l new × ((j : ℕ) → j < y → ResumeClosed g k t n j v) → Progress g k t w m u o (new || more) × ((j : ℕ) → j < y + 1 → ResumeClosed g k t n j u)
   resume_progress {v = v} {u = u} y b z o j r wk p = let f = fine.callers n h z in (
@@ -102,7 +103,7 @@ module _ {g : List ℕ} {k t : ℕ} (fine : Fine g k t) (n : ℕ) (h : n < t) wh
   )
 
   -- one entry at a return
-  pub return_progress : {w v u m l o : List ℕ} {new more : Bool} (x : ℕ) → x < k → kind g n ≡ 2 → On v n x →
+  pub return_progress : {w v u : List ℕ} {m l o : Levels} {new more : Bool} (x : ℕ) → x < k → kind g n ≡ 2 → On v n x →
       Added v u (t + (proc g n + x)) (n % k) → Grew v u more → Callers g k t (proc g n + x) u l o more →
       Progress g k t w m v l new × ((j : ℕ) → j < x → ReturnClosed g k t n j v) → Progress g k t w m u o (new || more) × ((j : ℕ) → j < x + 1 → ReturnClosed g k t n j u)
   return_progress {u = u} x b z o a r wk p = (
@@ -115,7 +116,7 @@ module _ {g : List ℕ} {k t : ℕ} (fine : Fine g k t) (n : ℕ) (h : n < t) wh
         (λ _. a.got),
   )
 
-  pub visit_call : {w v u m l o : List ℕ} {p q : Bool} → kind g n ≡ 1 → (x : ℕ) × (x < 64) × On w n x →
+  pub visit_call : {w v u : List ℕ} {m l o : Levels} {p q : Bool} → kind g n ≡ 1 → (x : ℕ) × (x < 64) × On w n x →
       Added w v (first g n + n % k) (n % k) → Grew w v p → Marked m l (first g n + n % k) p → Resume g k t n v l u o q → Visit g k t n w m u o (p || q)
   visit_call z some a grew marked r = let f = fine.callees n h z in let b : first g n + n % k < t = omega (arith, f.1, below fine n) in record {
     progress = progress_both fine (progress_node fine (first g n + n % k) b (only_add a) grew marked
@@ -123,29 +124,46 @@ module _ {g : List ℕ} {k t : ℕ} (fine : Fine g k t) (n : ℕ) (h : n < t) wh
     closed = closed_call z (λ x b o. r.progress.grew.kept _ _ a.got) r.closed;
   }
 
+-- nothing is done
+pub grew_none : (w : List ℕ) → Grew w w false
+grew_none w = record { kept = λ i y o. o; same = λ _. refl; less = λ e. absurd (true≢false (sym e)) }
+
+pub progress_none : {g : List ℕ} {k t : ℕ} {w : List ℕ} (m : Levels) → Progress g k t w m w m false
+progress_none {w = w} m = record { grew = grew_none w; same = λ _. refl; sound = λ root s. s; covered = λ j h s. s; kept = more_none m }
+
+-- a node with no bit needs no visit
+pub visit_none : {g : List ℕ} {k t : ℕ} (n : ℕ) {w : List ℕ} (m : Levels) → Fine g k t → Empty w n → Visit g k t n w m w m false
+visit_none n m fine f = record { progress = progress_none m; closed = closed_empty fine n f }
+
 -- the beginning: only the root waits
-pub covered_first : {g : List ℕ} {k t root : ℕ} {z u l m : List ℕ} → Fine g k t → ((i : ℕ) → i < length z → get_or z i 0 ≡ 0) → Added z u root 0 → Marked l m root true → (n : ℕ) → n < t → Covered g k t u m n
-covered_first {root = root} {z = z} {m = m} fine f a marked n h = elim (cases_eq n root) [
-  | inl e ↦ inr (subst (λ x. In m x) (sym e) (marked.got refl))
+pub covered_first : {g : List ℕ} {k t root : ℕ} {z u : List ℕ} (m : Levels) → Fine g k t → ((i : ℕ) → i < length z → get_or z i 0 ≡ 0) → Added z u root 0 → In m root → (n : ℕ) → n < t → Covered g k t u m n
+covered_first {root = root} {z = z} m fine f a marked n h = elim (cases_eq n root) [
+  | inl e ↦ inr (subst (λ x. In m x) (sym e) marked)
   | inr d ↦ inl (closed_empty fine n (λ x b o. elim (a.only n x b o) [ inl p ↦ no_bits z f _ _ p | inr p ↦ d p.0 ]))
 ]
 
--- a visit: the mark of n is taken away, and n is visited
-pub covered_visit : {g : List ℕ} {k t i n : ℕ} {w m m1 v l : List ℕ} {new : Bool} → Taken m m1 i n → Visit g k t n w m1 v l new → ((j : ℕ) → j < t → Covered g k t w m j) → (j : ℕ) → j < t → Covered g k t v l j
-covered_visit {g} {k} {t} {n = n} {v = v} tk r p j h = elim (cases_eq j n) [
-  | inl e ↦ inl (subst (λ x. Closed g k t v x) (sym e) r.closed)
-  | inr d ↦ r.progress.covered j h (elim (p j h) [ inl c ↦ inl c | inr o ↦ inr (tk.kept j d o) ])
-]
+module _ {g : List ℕ} {k t c n : ℕ} {w : List ℕ} {m o : Levels} (tk : NodeTaken m o c n) where
+  -- what is marked past the nodes is no node's
+  pub covered_past : t ≤ n → ((j : ℕ) → j < t → Covered g k t w m j) → (j : ℕ) → j < t → Covered g k t w o j
+  covered_past h p j b = elim (p j b) [ inl q ↦ inl q | inr q ↦ inr (tk.nodes.kept j (λ e. absurd (omega arith)) q) ]
 
--- and there is less to do
-pub visit_less : {g : List ℕ} {k t i n : ℕ} {w m m1 v l : List ℕ} {new : Bool} (len : ℕ) → length l ≡ len → Taken m m1 i n → Visit g k t n w m1 v l new →
-    room v * (2 ^ 32 * len + 1) + total l < room w * (2 ^ 32 * len + 1) + total m
-visit_less {w = w} {m} {m1} {v} {l} {new} len e tk r = elim (cases_Bool new) [
-  | inl y ↦ omega (arith, total_le l, mul-le (room v + 1) (2 ^ 32 * len + 1) (room w) (2 ^ 32 * len + 1) (omega (arith, r.progress.grew.less y)) (omega arith), add-mul (room v) 1 (2 ^ 32 * len + 1))
-  | inr y ↦ let a : room v ≡ room w = ap room (r.progress.grew.same y) in let b : total l ≡ total m1 = ap total (r.progress.same y) in
-      rw a (omega (arith, tk.less))
-]
+  -- a visit: the mark of n is taken away, and n is visited
+  pub covered_visit : {v : List ℕ} {l : Levels} {new : Bool} → Visit g k t n w o v l new → ((j : ℕ) → j < t → Covered g k t w m j) → (j : ℕ) → j < t → Covered g k t v l j
+  covered_visit {v} r p j h = elim (cases_eq j n) [
+    | inl e ↦ inl (subst (λ x. Closed g k t v x) (sym e) r.closed)
+    | inr d ↦ r.progress.covered j h (elim (p j h) [ inl q ↦ inl q | inr q ↦ inr (tk.nodes.kept j d q) ])
+  ]
 
--- what is marked past the nodes is no node's
-pub covered_past : {g : List ℕ} {k t i v : ℕ} {w m l : List ℕ} → Taken m l i v → t ≤ v → ((j : ℕ) → j < t → Covered g k t w m j) → (j : ℕ) → j < t → Covered g k t w l j
-covered_past tk h p j b = elim (p j b) [ inl c ↦ inl c | inr o ↦ inr (tk.kept j (λ q. absurd (omega arith)) o) ]
+  -- and there is less to do
+  pub visit_less : {v : List ℕ} {l : Levels} {new : Bool} (len : ℕ) → length l.nodes + length l.words ≡ len → Visit g k t n w o v l new → remaining len v l < remaining len w m
+  visit_less {v} {l} {new} len e r = let z : total o.words ≡ total m.words = ap total tk.words in elim (cases_Bool new) [
+    | inl y ↦ omega (arith, total_le l.nodes, total_le l.words, mul-le (room v + 1) (2 ^ 32 * len + 1) (room w) (2 ^ 32 * len + 1) (omega (arith, r.progress.grew.less y)) (omega arith), add-mul (room v) 1 (2 ^ 32 * len + 1))
+    | inr y ↦ let a : room v ≡ room w = ap room (r.progress.grew.same y) in
+        let b : total l.nodes ≡ total o.nodes = ap (λ x. total x.nodes) (r.progress.same y) in
+        let d : total l.words ≡ total o.words = ap (λ x. total x.words) (r.progress.same y) in
+        rw a (omega (arith, tk.nodes.less))
+  ]
+
+-- the mark of a word is taken away
+pub covered_word : {g : List ℕ} {k t c : ℕ} {w : List ℕ} {m l : Levels} → WordTaken m l c → (n : ℕ) → Covered g k t w m n → Covered g k t w l n
+covered_word tk n p = elim p [ inl q ↦ inl q | inr q ↦ inr (subst (λ t. At t n) (sym tk.nodes) q) ]

@@ -3,7 +3,7 @@ use Rattle.std.specs.Prelude.{◌≡◌, ℕ, ◌+◌, ◌%◌, ◌<◌, Bool, t
 use Rattle.pushdown.specs.System.{Returns}
 use Rattle.saturation.specs.Bits.{On, Grew}
 use Rattle.saturation.specs.System.{kind, first, second, proc, words, Starts, Can}
-use Rattle.saturation.specs.Marks.{In, Empty, More}
+use Rattle.saturation.specs.Marks.{Levels, In, Empty, More}
 
 -- every bit is true: node n for n < t, and what an entry e can return with at t + e
 pub record Sound (g : List ℕ) (k t root : ℕ) (w : List ℕ) : Type 0 where
@@ -19,11 +19,11 @@ pub record Closed (g : List ℕ) (k t : ℕ) (w : List ℕ) (n : ℕ) : Type 0 w
   pub back : kind g n ≡ 2 → (x : ℕ) → x < k → On w n x → On w (t + (proc g n + x)) (n % k)
 
 -- nothing is to be done at n, or n is marked
-abbrev pub Covered : List ℕ → ℕ → ℕ → List ℕ → List ℕ → ℕ → Type 0
+abbrev pub Covered : List ℕ → ℕ → ℕ → List ℕ → Levels → ℕ → Type 0
 Covered g k t w m n = Closed g k t w n ⊎ In m n
 
 -- what each step leaves
-pub record Progress (g : List ℕ) (k t : ℕ) (w m w' m' : List ℕ) (new : Bool) : Type 0 where
+pub record Progress (g : List ℕ) (k t : ℕ) (w : List ℕ) (m : Levels) (w' : List ℕ) (m' : Levels) (new : Bool) : Type 0 where
   pub grew : Grew w w' new
   pub same : new ≡ false → m' ≡ m
   pub sound : (root : ℕ) → Sound g k t root w → Sound g k t root w'
@@ -31,17 +31,17 @@ pub record Progress (g : List ℕ) (k t : ℕ) (w m w' m' : List ℕ) (new : Boo
   pub kept : More m m'
 
 -- and a visit of n
-pub record Visit (g : List ℕ) (k t n : ℕ) (w m w' m' : List ℕ) (new : Bool) : Type 0 where
+pub record Visit (g : List ℕ) (k t n : ℕ) (w : List ℕ) (m : Levels) (w' : List ℕ) (m' : Levels) (new : Bool) : Type 0 where
   pub progress : Progress g k t w m w' m' new
   pub closed : Closed g k t w' n
 
 -- the rest of a call
-pub record Resume (g : List ℕ) (k t n : ℕ) (w m w' m' : List ℕ) (new : Bool) : Type 0 where
+pub record Resume (g : List ℕ) (k t n : ℕ) (w : List ℕ) (m : Levels) (w' : List ℕ) (m' : Levels) (new : Bool) : Type 0 where
   pub progress : Progress g k t w m w' m' new
   pub closed : (y : ℕ) → y < k → (x : ℕ) → x < 64 → On w' n x → On w' (t + (first g n + n % k)) y → On w' (second g n + y) x
 
 -- if something was new, each call that enters at e has been marked, if it has bits at all
-pub record Callers (g : List ℕ) (k t e : ℕ) (w m m' : List ℕ) (new : Bool) : Type 0 where
+pub record Callers (g : List ℕ) (k t e : ℕ) (w : List ℕ) (m m' : Levels) (new : Bool) : Type 0 where
   pub kept : More m m'
   pub got : new ≡ true → (n : ℕ) → n < t → kind g n ≡ 1 → first g n + n % k ≡ e → In m' n ⊎ Empty w n
   pub same : new ≡ false → m' ≡ m

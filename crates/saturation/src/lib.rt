@@ -2,14 +2,16 @@
 #![tactic(auto)]
 
 ghost use Rattle.std.specs.Prelude.{◌≡◌, ◌*◌, ◌/◌, ◌<◌, length, slice_index};
-ghost use Rattle.saturation.specs.System.{Starts, Tells};
-ghost use Rattle.saturation.specs.Engine.{Ready, Drained};
+ghost use Rattle.saturation.specs.System.{proc, site_begin, site_end, Fine, Starts, Tells};
+ghost use Rattle.saturation.specs.Node.{Is};
+ghost use Rattle.saturation.specs.Engine.{Ready};
 
-use bits::add;
-use marks::{mark, pick, take};
-use visits::visit;
+use engine::Engine;
+use marks::Marks;
+use std::ops::Range;
 
 pub mod bits;
+mod engine;
 mod marks;
 mod visits;
 
@@ -26,18 +28,62 @@ pub struct System<'g, 's> {
     pub nodes: usize,
 }
 
-// Visits the marked nodes of the word of marks at `word` until none is marked there.
-fn drain(system: System, work: &mut [u32], marks: &mut [u32], word: usize)
-    requires ready { Ready system work.old marks.old }
-    requires within { word < length marks.old / 33 * 32 }
-    ensures drained { Drained system.entry word work.old marks.old work.new marks.new }
-    ensures empty { slice_index marks.new word ≡ 0 }
-{
-    'drain: while marks[word] != 0 {
-        let n = take(marks, word);
-        if n < system.nodes {
-            visit(system, work, marks, n);
+// What a node does: it flows to two nodes; it calls, at the callee's first node, and goes on behind, at the first
+// node of a place; or it returns, to the call places from `begin` to `end`.
+#[derive(Clone, Copy, PartialEq, Debug)]
+pub enum Node {
+    Flow { first: usize, second: usize },
+    Call { callee: usize, next: usize },
+    Return { begin: usize, end: usize },
+}
+
+impl System<'_, '_> {
+    // Node `n`.
+    #[inline]
+    #[tactic(auto, unfolding(crate::specs::System::kind, crate::specs::System::first, crate::specs::System::second))]
+    pub fn node(&self, n: usize) -> Node
+        requires fine { Fine self.now.graph.now self.now.shared self.now.nodes }
+        requires within { n < self.now.nodes }
+        ensures { Is self.now.graph.now n result }
+    {
+        let first = self.graph[4 * n + 1] as usize;
+        let second = self.graph[4 * n + 2] as usize;
+        match self.graph[4 * n] {
+            0 => Node::Flow { first, second },
+            1 => Node::Call {
+                callee: first,
+                next: second,
+            },
+            _ => Node::Return {
+                begin: first,
+                end: second,
+            },
         }
+    }
+
+    // The first node of the procedure that node `n` stands in.
+    #[inline]
+    #[tactic(auto, unfolding(crate::specs::System::proc))]
+    pub fn base(&self, n: usize) -> usize
+        requires fine { Fine self.now.graph.now self.now.shared self.now.nodes }
+        requires within { n < self.now.nodes }
+        ensures { result ≡ proc self.now.graph.now n }
+    {
+        self.graph[4 * n + 3] as usize
+    }
+
+    // The nodes of the call place number `site`.
+    #[inline]
+    #[tactic(auto, unfolding(crate::specs::System::second, crate::specs::System::site_begin))]
+    pub fn place(&self, site: usize) -> Range<usize>
+        requires fine { Fine self.now.graph.now self.now.shared self.now.nodes }
+        requires listed { site < length self.now.sites.now }
+        requires within { site_begin self.now.sites.now site < self.now.nodes }
+        ensures begin { result.start ≡ site_begin self.now.sites.now site }
+        ensures end { result.end ≡ site_end self.now.graph.now self.now.sites.now site }
+    {
+        let begin = self.sites[site] as usize;
+        begin..self.graph[4 * begin + 2] as usize
     }
 }
 
@@ -48,18 +94,12 @@ pub fn saturate(system: System, work: &mut [u32], marks: &mut [u32], root: usize
     ensures { Tells system.entry.graph.now system.entry.shared system.entry.nodes root work.new }
 {
     work.fill(0);
-    marks.fill(0);
-    add(work, root, 0);
-    mark(marks, root);
-    let summary = marks.len() / 33 * 32;
-    let end = marks.len() / 33 * 33;
-    let mut at = summary;
-    'sweep: loop {
-        at = pick(marks, summary, end, at);
-        if at >= end {
-            break 'sweep;
-        }
-        let word = take(marks, at) - 32 * summary;
-        drain(system, work, marks, word);
-    }
+    let mut marks = Marks::new(marks);
+    let mut engine = Engine {
+        system,
+        sets: work,
+        marks: &mut marks,
+    };
+    engine.insert(root, 0);
+    engine.sweep(root);
 }

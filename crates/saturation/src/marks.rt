@@ -1,112 +1,108 @@
 // Marks of the nodes that are still to be visited, on two levels: a bit for each node, and a bit for each word of those that is not 0.
-ghost use Rattle.std.specs.Prelude.{◌≡◌, ℕ, ◌+◌, ◌*◌, ◌%◌, ◌^◌, ◌<◌, ◌≤◌, true, length, slice_index};
-ghost use Rattle.saturation.specs.Bits.{Grew, Joined, Added};
-ghost use Rattle.saturation.specs.Marks.{base, Marked, Taken, Revisited, PlaceRevisited};
+ghost use Rattle.std.specs.Prelude.{◌≡◌, ℕ, ◌*◌, ◌/◌, ◌^◌, ◌<◌, ◌≤◌, true, length, slice_index, MatchOption};
+ghost use Rattle.saturation.specs.Marks.{Set, Marked, Taken, SameSize, NodeTaken, WordTaken, Clear};
 
-use crate::bits::{add, is_empty, join, merge};
+use crate::bits::merge;
+use std::marker::Model;
 
-// Marks node `n`, and the word of its mark.
-pub(crate) fn mark(marks: &mut [u32], n: usize)
-    requires { n < base marks.old }
-    ensures { Marked marks.old marks.new n true }
-{
-    let summary = marks.len() / 33 * 32;
-    merge(marks, n / 32, 1 << (31 - n % 32));
-    merge(marks, summary + n / 1024, 1 << (31 - n / 32 % 32));
+#[derive(Drop)]
+pub(crate) struct Marks<'m> {
+    nodes: &'m mut [u32],
+    words: &'m mut [u32],
 }
 
-// The bits of node `from` go into node `to`, which is marked if one was new.
-pub(crate) fn propagate(work: &mut [u32], marks: &mut [u32], from: usize, to: usize) -> bool
-    requires { (2 * from + 1 < length work.old) × ((2 * to + 1 < length work.old) × (to < base marks.old)) }
-    ensures joined { Joined work.old work.new from to }
-    ensures grew { Grew work.old work.new result }
-    ensures marked { Marked marks.old marks.new to result }
+impl<'m> Model for Marks<'m> {
+    ghost use Rattle.std.specs.Prelude.{◌≡◌, ◌*◌, ◌^◌, ◌<◌, length};
+    ghost use Rattle.saturation.specs.Marks.{Levels};
+
+    ghost Value = { Levels };
+
+    ghost view = { λ m. record { nodes = m.nodes.now; words = m.words.now } };
+
+    ghost invariant = { λ m. (length m.nodes.now ≡ 32 * length m.words.now) × (length m.nodes.now < 2 ^ 40) };
+}
+
+// Marks number `n`.
+fn set(words: &mut [u32], n: usize)
+    requires { n < 32 * length words.old }
+    ensures { Set words.old words.new n }
 {
-    let new = join(work, from, to);
-    if new {
-        mark(marks, to);
+    merge(words, n / 32, 1 << (31 - n % 32));
+}
+
+// Takes the first mark of the word at `i` away: the number that it was of, or none if the word is 0.
+fn take(words: &mut [u32], i: usize) -> Option<usize>
+    requires { (i < length words.old) × (length words.old < 2 ^ 40) }
+    ensures { MatchOption result ((slice_index words.old i ≡ 0) × (words.new ≡ words.old)) (λ n. Taken words.old words.new i n) }
+{
+    let word = words[i];
+    if word == 0 {
+        return None;
     }
-    new
-}
-
-// Sets bit `x` of node `n`, which is marked if that was new.
-pub(crate) fn insert(work: &mut [u32], marks: &mut [u32], n: usize, x: usize) -> bool
-    requires { (2 * n + 1 < length work.old) × ((x < 64) × (n < base marks.old)) }
-    ensures added { Added work.old work.new n x }
-    ensures grew { Grew work.old work.new result }
-    ensures marked { Marked marks.old marks.new n result }
-{
-    let new = add(work, n, x);
-    if new {
-        mark(marks, n);
-    }
-    new
-}
-
-// Takes the first mark of the word at `i` away; returns the number that it was of.
-pub(crate) fn take(marks: &mut [u32], i: usize) -> usize
-    requires within { i < length marks.old }
-    requires some { 0 < slice_index marks.old i }
-    requires short { length marks.old < 2 ^ 40 }
-    ensures { Taken marks.old marks.new i result }
-{
-    let word = marks[i];
     let zeros = word.leading_zeros();
-    marks[i] = word - (1 << (31 - zeros));
-    32 * i + zeros as usize
+    words[i] = word - (1 << (31 - zeros));
+    Some(32 * i + zeros as usize)
 }
 
-// The place of a word that is not 0 in `from..end`: the first from `at` on, or else the first of all; `end` if all are 0.
-pub(crate) fn pick(marks: &[u32], from: usize, end: usize, at: usize) -> usize
-    requires order { (from ≤ at) × (from ≤ end) }
-    requires within { end ≤ length marks.now }
-    ensures after { from ≤ result }
-    ensures within { result ≤ end }
-    ensures found { result < end → 0 < slice_index marks.now result }
-    ensures none { end ≤ result → (i : ℕ) → from ≤ i → i < end → slice_index marks.now i ≡ 0 }
+// The first word that has a mark.
+fn first_marked(words: &[u32]) -> Option<usize>
+    ensures { MatchOption result ((i : ℕ) → slice_index words.now i ≡ 0) (λ i. (i < length words.now) × (0 < slice_index words.now i)) }
 {
-    for i in at..end {
-        if marks[i] != 0 {
-            return i;
+    words.iter().position(|word| *word != 0)
+}
+
+impl<'m> Marks<'m> {
+    // Marks in lent words, none of them set: of 33 words 32 are for nodes. What the words hold before does not matter.
+    pub(crate) fn new(words: &'m mut [u32]) -> Marks<'m>
+        requires { length words.old < 2 ^ 40 }
+        ensures { Clear result (32 * (length words.old / 33)) }
+    {
+        let count = words.len() / 33;
+        let (nodes, rest) = words.split_at_mut(32 * count);
+        let (words, _) = rest.split_at_mut(count);
+        nodes.fill(0);
+        words.fill(0);
+        Marks { nodes, words }
+    }
+
+    // Marks node `n`, and the word of its mark.
+    pub(crate) fn mark(&mut self, n: usize)
+        requires { n < 32 * length self.old.nodes }
+        ensures { Marked self.old self.new n true }
+    {
+        set(self.nodes, n);
+        set(self.words, n / 32);
+    }
+
+    // Takes the mark of the first marked node of the word at `word` away: the node, or none.
+    pub(crate) fn take_node(&mut self, word: usize) -> Option<usize>
+        requires { word < length self.old.nodes }
+        ensures { MatchOption result ((slice_index self.old.nodes word ≡ 0) × (self.new ≡ self.old)) (λ n. NodeTaken self.old self.new word n) }
+    {
+        take(self.nodes, word)
+    }
+
+    // A word of the words' marks that is not 0: the first from `at` on, or else the first of all.
+    fn pick(&self, at: usize) -> Option<usize>
+        requires { at ≤ length self.now.words }
+        ensures { MatchOption result ((i : ℕ) → slice_index self.now.words i ≡ 0) (λ i. (i < length self.now.words) × (0 < slice_index self.now.words i)) }
+    {
+        let words = &self.words;
+        let (passed, ahead) = words.split_at(at);
+        match first_marked(ahead) {
+            Some(i) => Some(at + i),
+            None => first_marked(passed),
         }
     }
-    for i in from..end {
-        if marks[i] != 0 {
-            return i;
-        }
-    }
-    end
-}
 
-// Marks node `n`, if a bit of it is set.
-pub(crate) fn revisit(work: &[u32], marks: &mut [u32], n: usize)
-    requires { (2 * n + 1 < length work.now) × (n < base marks.old) }
-    ensures { Revisited work.now marks.old marks.new n }
-{
-    if !is_empty(work, n) {
-        mark(marks, n);
-    }
-}
-
-// Marks the nodes of the place `from..end` with the shared value `x` that have a bit set.
-pub(crate) fn revisit_place(
-    k: usize,
-    work: &[u32],
-    marks: &mut [u32],
-    from: usize,
-    end: usize,
-    x: usize,
-)
-    requires some { (x < k) × (k ≤ 64) }
-    requires even { from % k ≡ 0 }
-    requires long { 4 * end ≤ length work.now }
-    requires wide { end ≤ base marks.old }
-    requires fits { (end < 2 ^ 62) × (from < 2 ^ 62) }
-    ensures { PlaceRevisited k work.now marks.old marks.new from end x }
-{
-    let mut n = from + x;
-    while n < end {
-        revisit(work, marks, n);
-        n += k;
+    // Takes the mark of a word of nodes' marks away: the word's place, or none if no word is marked. `at` is where to
+    // look first.
+    pub(crate) fn take_word(&mut self, at: usize) -> Option<usize>
+        requires { at ≤ length self.old.words }
+        ensures size { SameSize self.old self.new }
+        ensures taken { MatchOption result ((i : ℕ) → slice_index self.old.words i ≡ 0) (λ c. WordTaken self.old self.new c) }
+    {
+        let i = self.pick(at)?;
+        take(self.words, i)
     }
 }

@@ -1,0 +1,11 @@
+-- `drain`: each turn takes a mark away, and visits the node if it is one.
+use Rattle.std.proofs.Common.{◌+◌, length}
+use Rattle.saturation.specs.Engine.{remaining}
+use Rattle.saturation.specs.Steps.{Drained}
+use Rattle.saturation.proofs.engine.Engine.drain.Given as goal
+
+abbrev pub invariant-drain : goal.invariant-drain
+invariant-drain l = Drained l.initial.self l.self l.word
+
+abbrev pub decreases-drain : goal.decreases-drain
+decreases-drain l = remaining (length l.initial.self.marks.now.nodes + length l.initial.self.marks.now.words) l.self.sets.now l.self.marks.now
