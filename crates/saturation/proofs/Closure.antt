@@ -21,9 +21,6 @@ module _ {g : List ℕ} {k t : ℕ} {w : List ℕ} {n : ℕ} where
   pub closed_call : kind g n ≡ 1 → ((x : ℕ) → x < k → On w n x → On w (first g n + n % k) (n % k)) → ((y : ℕ) → y < k → ResumeClosed g k t n y w) → Closed g k t w n
   closed_call z f b = record { flow = λ e. absurd (omega arith); call = λ _. f; over = λ _ x y l h. b y h x l; back = λ e. absurd (omega arith) }
 
-  pub closed_return : kind g n ≡ 2 → ((x : ℕ) → x < k → ReturnClosed g k t n x w) → Closed g k t w n
-  closed_return z f = record { flow = λ e. absurd (omega arith); call = λ e. absurd (omega arith); over = λ e. absurd (omega arith); back = λ _. f }
-
 module _ {g : List ℕ} {k t : ℕ} (fine : Fine g k t) where
   -- a node with no bit
   pub closed_empty : {w : List ℕ} (n : ℕ) → Empty w n → Closed g k t w n

@@ -21,17 +21,6 @@ kept_both p q = record { system = q.system ∙ p.system; sets = q.sets ∙ p.set
 pub still_of : {e f : Engine} → f.system ≡ e.system → f.sets.ghost_name ≡ e.sets.ghost_name → f.marks.ghost_name ≡ e.marks.ghost_name → f.sets.now ≡ e.sets.now → Still e f
 still_of a b c d = record { kept = record { system = a; sets = b; marks = c }; same = d }
 
-pub drained_none : (e : Engine) (c : ℕ) → Drained e e c
-drained_none e c = record {
-  kept = record { system = refl; sets = refl; marks = refl };
-  bits = λ i y o. o;
-  sound = λ root p. p;
-  covered = λ p. p;
-  summary = λ p. p;
-  size = record { nodes = refl; words = refl };
-  less = λ len z. omega arith;
-}
-
 -- a mark is taken away
 module _ {e f g : Engine} {c n : ℕ} (d : Drained e f c) (s : Still f g) (tk : NodeTaken f.marks.now g.marks.now c n) where
   -- and its node visited
@@ -90,13 +79,6 @@ module _ {e f g h : Engine} {c : ℕ} (k : Kept e f) (s : Still f g) (tk : WordT
         covered = d.covered (λ n l. covered_word tk n (r.covered n l));
         summary = summary_all h.marks.now c z (d.summary (summary_next tk r.summary));
       })
-
-  pub sweep_less : (len : ℕ) → length f.marks.now.nodes + length f.marks.now.words ≡ len → remaining len h.sets.now h.marks.now < remaining len f.sets.now f.marks.now
-  sweep_less len q =
-      let z : total g.marks.now.nodes ≡ total f.marks.now.nodes = ap total tk.nodes in
-      let p : remaining len h.sets.now h.marks.now ≤ remaining len f.sets.now g.marks.now =
-      subst (λ w. remaining len h.sets.now h.marks.now ≤ remaining len w g.marks.now) s.same (d.less len (omega (arith, tk.size.nodes, tk.size.words))) in
-      omega (arith, p, tk.words.1.less)
 
   pub sweep_size : SameSize e.marks.now f.marks.now → SameSize e.marks.now h.marks.now
   sweep_size z = same_size z (same_size tk.size d.size)

@@ -16,9 +16,6 @@ pub record SitesPassed (g c : List ℕ) (k x : ℕ) (w : List ℕ) (m l : Levels
   pub kept : More m l
   pub got : (s : ℕ) → s < i → a ≤ s → (j : ℕ) → site_begin c s ≤ j → j < site_end g c s → j % k ≡ x → In l j ⊎ Empty w j
 
-pub sites_none : (g c : List ℕ) (k x : ℕ) (w : List ℕ) (m : Levels) (a : ℕ) → SitesPassed g c k x w m m a a
-sites_none g c k x w m a = record { kept = more_none m; got = λ s h b. absurd (omega arith) }
-
 pub sites_more : {g c : List ℕ} {k x : ℕ} {w : List ℕ} {m l o : Levels} {a : ℕ} (i : ℕ) → SitesPassed g c k x w m l a i → PlaceRevisited k w l o (site_begin c i) (site_end g c i) x → SitesPassed g c k x w m o a (i + 1)
 sites_more {g} {c} {k} {x} {w} {m} {l} {o} {a} i p r = record {
   kept = more_both p.kept r.kept;

@@ -1,14 +1,14 @@
 -- What each step of a visit leaves: bits that are true, and nodes that are closed or marked.
-use Rattle.std.proofs.Common.{◌≡◌, ℕ, ◌+◌, ◌*◌, ◌%◌, ◌^◌, ◌<◌, ◌≤◌, Bool, false, ◌||◌, ◌≢◌, List, length, get_or, sym, refl, ap, ◌∙◌, subst, inl, inr, add-mul, arith, below_more}
-use Rattle.std.proofs.lemmas.Bool.{or_parts, cases_eq, cases_Bool, true≢false}
+use Rattle.std.proofs.Common.{◌≡◌, ℕ, ◌+◌, ◌*◌, ◌%◌, ◌^◌, ◌<◌, ◌≤◌, Bool, ◌||◌, ◌≢◌, List, length, get_or, sym, refl, ap, ◌∙◌, subst, inl, inr, add-mul, arith, below_more}
+use Rattle.std.proofs.lemmas.Bool.{or_parts, cases_eq, cases_Bool}
 use Rattle.std.proofs.lemmas.Nat.{mul-le}
 use Rattle.saturation.specs.Bits.{On, room, Grew, Joined, Added}
 use Rattle.saturation.specs.System.{kind, first, second, proc, words, Fine}
-use Rattle.saturation.specs.Marks.{At, In, Empty, Levels, total, Marked, NodeTaken, WordTaken}
+use Rattle.saturation.specs.Marks.{At, In, Levels, total, Marked, NodeTaken, WordTaken}
 use Rattle.saturation.specs.Engine.{remaining}
 use Rattle.saturation.specs.Visits.{Sound, Closed, Callers, Covered, Progress, Visit, Resume}
 use Rattle.saturation.proofs.Nodes.{grew_both}
-use Rattle.saturation.proofs.Marking.{total_le, more_none, more_both}
+use Rattle.saturation.proofs.Marking.{total_le, more_both}
 use Rattle.saturation.proofs.Complete.{below, begins, keeps, callee_mod}
 use Rattle.saturation.proofs.Soundness.{no_bits, sound_join, sound_can, sound_return, resume_sound}
 use Rattle.saturation.proofs.Closure.{ResumeClosed, ReturnClosed, closed_flow, closed_call, closed_empty, still}
@@ -123,17 +123,6 @@ module _ {g : List ℕ} {k t : ℕ} (fine : Fine g k t) (n : ℕ) (h : n < t) wh
         (λ root s. let c = s.can n some.0 h some.1 some.2 in sound_can (first g n + n % k) (n % k) b a (first g n + n % k, callee_mod fine n h z, enters c.2 c.3 (z, refl, refl), here) s)) r.progress;
     closed = closed_call z (λ x b o. r.progress.grew.kept _ _ a.got) r.closed;
   }
-
--- nothing is done
-pub grew_none : (w : List ℕ) → Grew w w false
-grew_none w = record { kept = λ i y o. o; same = λ _. refl; less = λ e. absurd (true≢false (sym e)) }
-
-pub progress_none : {g : List ℕ} {k t : ℕ} {w : List ℕ} (m : Levels) → Progress g k t w m w m false
-progress_none {w = w} m = record { grew = grew_none w; same = λ _. refl; sound = λ root s. s; covered = λ j h s. s; kept = more_none m }
-
--- a node with no bit needs no visit
-pub visit_none : {g : List ℕ} {k t : ℕ} (n : ℕ) {w : List ℕ} (m : Levels) → Fine g k t → Empty w n → Visit g k t n w m w m false
-visit_none n m fine f = record { progress = progress_none m; closed = closed_empty fine n f }
 
 -- the beginning: only the root waits
 pub covered_first : {g : List ℕ} {k t root : ℕ} {z u : List ℕ} (m : Levels) → Fine g k t → ((i : ℕ) → i < length z → get_or z i 0 ≡ 0) → Added z u root 0 → In m root → (n : ℕ) → n < t → Covered g k t u m n

@@ -1,4 +1,5 @@
 // The engine: decides by saturation what a pushdown system can do, with a set of bits for each node.
+// Words are `u32`, and `as usize` makes a number of one: std has no `From<u32>` for `usize`.
 #![tactic(auto)]
 
 ghost use Rattle.std.specs.Prelude.{◌≡◌, ◌*◌, ◌/◌, ◌<◌, length, slice_index};

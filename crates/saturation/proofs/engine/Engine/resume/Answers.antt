@@ -1,13 +1,10 @@
 -- `resume`: the values that can be returned, one after the other.
-use Rattle.std.proofs.Common.{false, ◌||◌, refl, arith, below_more}
+use Rattle.std.proofs.Common.{◌||◌, refl, arith, below_more}
 use Rattle.saturation.proofs.Draining.{kept_both}
 use Rattle.saturation.proofs.Closure.{ResumeClosed}
-use Rattle.saturation.proofs.Visiting.{resume_progress, progress_none}
+use Rattle.saturation.proofs.Visiting.{resume_progress}
 use Rattle.saturation.proofs.engine.Engine.resume.Goals as goal
 use Rattle.saturation.proofs.engine.Engine.resume.Goals.{then-has, else-has}
-
-pub loop-y-init : goal.loop-y-init
-loop-y-init c = record { kept = record { system = refl; sets = refl; marks = refl }; new = false; progress = progress_none _; closed = λ j h. absurd (omega arith) }
 
 pub loop-y-preserved : goal.loop-y-preserved
 loop-y-preserved c = let p = c.requires.is in let o = c.loop-y.invariant in elim c.if-has.branch [
@@ -15,6 +12,3 @@ loop-y-preserved c = let p = c.requires.is in let o = c.loop-y.invariant in elim
       simp w.self-is (record { kept = kept_both o.kept v.kept; new = o.new || v.new; progress = r.0; closed = r.1 })
   | else-has w ↦ simp w.self-is (record { kept = o.kept; new = o.new; progress = o.progress; closed = below_more (λ j. ResumeClosed c.args.self.now.system.graph.now c.args.self.now.system.shared c.args.self.now.system.nodes c.args.n j c.loop-y.self.sets.now) c.loop-y.y o.closed (λ x b h a. absurd (w.if-has.ensures.no refl (rw p.1 a))) })
 ]
-
-pub returns : goal.returns
-returns c = let o = c.loop-y.invariant in record { kept = o.kept; new = o.new; resume = record { progress = o.progress; closed = λ y b. o.closed y (omega arith) } }

@@ -3,9 +3,6 @@ use Rattle.std.proofs.Common.{refl, arith}
 use Rattle.saturation.proofs.Draining.{still_of, sweep_kept, sweep_begun, sweep_size, swept}
 use Rattle.saturation.proofs.engine.Engine.sweep.Goals as goal
 
-pub drain-requires : goal.drain-requires
-drain-requires c = let t = c.in-Some.ensures.taken in omega (arith, t.within.0, t.size.nodes)
-
 pub sweep-preserved : goal.sweep-preserved
 sweep-preserved c = let o = c.sweep.invariant in let t = c.in-Some.ensures.taken in let d = c.drain.ensures.drained in (
   sweep_kept o.0 (still_of refl refl refl refl) t d,

@@ -1,11 +1,8 @@
 -- `visit_call`: the entry of the procedure called, then what follows its returns.
-use Rattle.std.proofs.Common.{false, ◌||◌, refl}
+use Rattle.std.proofs.Common.{◌||◌, refl}
 use Rattle.saturation.proofs.Draining.{kept_both}
-use Rattle.saturation.proofs.Visiting.{visit_call, visit_none}
+use Rattle.saturation.proofs.Visiting.{visit_call}
 use Rattle.saturation.proofs.engine.Engine.visit_call.Goals as goal
-
-pub returns-then-is_empty : goal.returns-then-is_empty
-returns-then-is_empty c = record { kept = record { system = refl; sets = refl; marks = refl }; new = false; visit = visit_none c.args.n c.args.self.now.marks.now c.args.self.now.ready.fine (c.if-is_empty.ensures.yes refl) }
 
 pub returns : goal.returns
 returns c = let p = c.requires.is in let a = c.insert.ensures in let b = c.resume.ensures in record {

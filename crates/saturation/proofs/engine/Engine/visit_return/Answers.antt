@@ -1,13 +1,10 @@
 -- `visit_return`: the entries that can be inside, one after the other.
-use Rattle.std.proofs.Common.{false, ◌||◌, refl, arith, below_more}
+use Rattle.std.proofs.Common.{◌||◌, refl, arith, below_more}
 use Rattle.saturation.proofs.Draining.{kept_both}
-use Rattle.saturation.proofs.Closure.{ReturnClosed, closed_return}
-use Rattle.saturation.proofs.Visiting.{return_progress, progress_none}
+use Rattle.saturation.proofs.Closure.{ReturnClosed}
+use Rattle.saturation.proofs.Visiting.{return_progress}
 use Rattle.saturation.proofs.engine.Engine.visit_return.Goals as goal
 use Rattle.saturation.proofs.engine.Engine.visit_return.Goals.{then-has, else-has}
-
-pub loop-x-init : goal.loop-x-init
-loop-x-init c = record { kept = record { system = refl; sets = refl; marks = refl }; new = false; progress = progress_none _; closed = λ j h. absurd (omega arith) }
 
 pub loop-x-preserved : goal.loop-x-preserved
 loop-x-preserved c = let o = c.loop-x.invariant in elim c.if-has.branch [
@@ -15,6 +12,3 @@ loop-x-preserved c = let o = c.loop-x.invariant in elim c.if-has.branch [
       simp w.self-is (record { kept = kept_both o.kept v.kept; new = o.new || v.new; progress = r.0; closed = r.1 })
   | else-has w ↦ simp w.self-is (record { kept = o.kept; new = o.new; progress = o.progress; closed = below_more (λ j. ReturnClosed c.args.self.now.system.graph.now c.args.self.now.system.shared c.args.self.now.system.nodes c.args.n j c.loop-x.self.sets.now) c.loop-x.x o.closed (λ h. absurd (w.if-has.ensures.no refl h)) })
 ]
-
-pub returns : goal.returns
-returns c = let o = c.loop-x.invariant in record { kept = o.kept; new = o.new; visit = record { progress = o.progress; closed = closed_return c.requires.is.0 (λ x b. o.closed x (omega arith)) } }
