@@ -1,6 +1,6 @@
 -- The numbered system is finite, and each of its moves can be told: so summaries are decided, and so is
 -- how many can wait.
-use Rattle.std.proofs.Common.{◌≡◌, ℕ, ◌+◌, ◌%◌, ◌^◌, ◌<◌, ◌⊎◌, sym, refl, ap, ◌∙◌, subst, inl, inr, ⊎_elim, arith}
+use Rattle.std.proofs.Common.{◌≡◌, ℕ, ◌+◌, ◌%◌, ◌^◌, ◌<◌, ◌⊎◌, sym, refl, ap, ◌∙◌, subst, inl, inr, ⊎_elim}
 use mathlib.Core.Logic.Dec
 use mathlib.Core.List.{Memᴰ as Mem}
 use native.Mathlib.Decide.{dec_lt, ℕ_discrete}
@@ -26,22 +26,22 @@ module _ (g : Prog) where
   module _ {n : ℕ} where
     flows? : (k : Move) → MoveOf g n k → (m : ℕ) → Dec ((numbered g).flow n m)
     flows? (on x y) o m = Dec.of_iff (λ h. (x, y, o, h), λ h. let e = move_one o h.2 in ⊎_elim (λ p. inl (p ∙ sym (fst_of e))) (λ p. inr (p ∙ sym (snd_of e))) h.3) (either? (ℕ_discrete m x) (ℕ_discrete m y))
-    flows? (down x r) o m = no (λ h. let e = move_one o h.2 in let z : ◌≡◌ {A = ℕ} 0 1 = cc in omega arith)
-    flows? up o m = no (λ h. let e = move_one o h.2 in let z : ◌≡◌ {A = ℕ} 0 1 = cc in omega arith)
+    flows? (down x r) o m = no (λ h. let e = move_one o h.2 in cc)
+    flows? up o m = no (λ h. let e = move_one o h.2 in cc)
 
     calls? : (k : Move) → MoveOf g n k → (m : ℕ) → Dec ((r : ℕ) × (numbered g).call n m r)
-    calls? (on x y) o m = no (λ h. let e = move_one o h.1 in let z : ◌≡◌ {A = ℕ} 0 1 = cc in omega arith)
+    calls? (on x y) o m = no (λ h. let e = move_one o h.1 in cc)
     calls? (down x r) o m = Dec.of_iff (λ h. (r, subst (λ z. MoveOf g n (down z r)) h o), λ h. callee_of (move_one o h.1)) (ℕ_discrete x m)
-    calls? up o m = no (λ h. let e = move_one o h.1 in let z : ◌≡◌ {A = ℕ} 0 1 = cc in omega arith)
+    calls? up o m = no (λ h. let e = move_one o h.1 in cc)
 
   abbrev Over : ℕ → ℕ → ℕ → ℕ → Type 0
   Over n m b k = (r : ℕ) × (x : ℕ) × (numbered g).call n m r × (numbered g).exit b x × (r + x ≡ k)
 
   over? : {n b : ℕ} (i j : Move) → MoveOf g n i → MoveOf g b j → (m k : ℕ) → Dec (Over n m b k)
-  over? (on x y) j o q m k = no (λ h. let e = move_one o h.2 in let z : ◌≡◌ {A = ℕ} 0 1 = cc in omega arith)
-  over? up j o q m k = no (λ h. let e = move_one o h.2 in let z : ◌≡◌ {A = ℕ} 0 1 = cc in omega arith)
-  over? (down x r) (on y z) o q m k = no (λ h. let e = move_one q h.3.0 in let z : ◌≡◌ {A = ℕ} 0 1 = cc in omega arith)
-  over? (down x r) (down y z) o q m k = no (λ h. let e = move_one q h.3.0 in let z : ◌≡◌ {A = ℕ} 0 1 = cc in omega arith)
+  over? (on x y) j o q m k = no (λ h. let e = move_one o h.2 in cc)
+  over? up j o q m k = no (λ h. let e = move_one o h.2 in cc)
+  over? (down x r) (on y z) o q m k = no (λ h. let e = move_one q h.3.0 in cc)
+  over? (down x r) (down y z) o q m k = no (λ h. let e = move_one q h.3.0 in cc)
   over? {n} {b} (down x r) up o q m k =
       Dec.of_iff (λ h. (r, b % 2 ^ g.shared, subst (λ z. MoveOf g n (down z r)) h.0 o, (q, refl), h.1), λ h. let e = move_one o h.2 in (callee_of e, ap (λ z. z + b % 2 ^ g.shared) (waiter_of e) ∙ ap (λ z. h.0 + z) (sym h.3.1) ∙ h.4))
       (Dec.and (ℕ_discrete x m) (ℕ_discrete (r + b % 2 ^ g.shared) k))

@@ -1,25 +1,23 @@
 -- Steps keep configurations well-formed, so what a well-formed program reaches is well-formed.
-use Rattle.std.proofs.Common.{◌≡◌, ℕ, zero, suc, ◌+◌, ◌<◌, ◌≤◌, Bool, true, false, List, [], ◌∷◌, length, sym, refl, ◌∙◌, arith, length-append, length-drop, length-take}
+use Rattle.std.proofs.Common.{◌≡◌, ℕ, zero, suc, ◌+◌, ◌<◌, ◌≤◌, Bool, true, false, List, [], ◌∷◌, length, sym, ◌∙◌, arith, length-append, length-drop, length-take}
 use mathlib.Core.Option.{some}
 use Rattle.program.specs.Program.{pick, nth, put, I, set, open1, go, call, Proc, Prog, Frame, St, all, value}
 use Rattle.program.specs.Rows.{Every, OkI, OkP, Reads}
 use Rattle.program.specs.Runs.{with_all, to, step_at, back_to, Step, sets, opens, goes, calls, returns, runs_out, begin, Reached, at_first, by}
 use Rattle.program.specs.WellFormed.{Good, FrameOk, StOk}
 use Rattle.program.proofs.Nums.{length_blank, length_put}
-use Rattle.program.proofs.Walk.{every_nth}
+use Rattle.program.proofs.Walk.{split, every_nth}
 
 pub good : {s : List ℕ} {g : Prog} → Reads s g → Good g
 good r = record { some_proc = r.some; procs = r.procs }
 
 pub nth_lt : {A : Type 0} (l : List A) (n : ℕ) (x : A) → nth l n ≡ some x → n < length l
-nth_lt [] n x e = let z : ◌≡◌ {A = ℕ} 0 1 = cc in absurd (omega arith)
+nth_lt [] n x e = absurd cc
 nth_lt (y ∷ l) zero x e = omega arith
 nth_lt (y ∷ l) (suc n) x e = omega (arith, nth_lt l n x e)
 
 pub nth_some : {A : Type 0} (l : List A) (n : ℕ) → n < length l → (x : A) × (nth l n ≡ some x)
-nth_some [] n h = absurd (omega arith)
-nth_some (y ∷ l) zero h = (y, refl)
-nth_some (y ∷ l) (suc n) h = nth_some l n (omega arith)
+nth_some l n h = let p = split l n h in (p.0, p.1)
 
 pub step_at_is : (g : Prog) (f : Frame) (p : Proc) → nth g.procs f.proc ≡ some p → step_at g f ≡ nth p.steps f.at
 step_at_is g f p e = rw e

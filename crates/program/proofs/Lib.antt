@@ -9,6 +9,7 @@ pub mod ReadingStep
 pub mod ReadingProc
 pub mod ReadingProgram
 pub mod Walk
+pub mod Turns
 pub mod Below
 pub mod Spots
 pub mod Kept

@@ -5,11 +5,12 @@ use mathlib.Core.Option.{Option, some, none}
 use lib.Arith.{digits_lt}
 use Rattle.pushdown.specs.System as pushdown
 use Rattle.program.specs.Program.{pick, nth, put, blank, I, set, open1, go, call, return, Proc, Prog, Frame, St, all, value}
-use Rattle.program.specs.Table.{num, before, spot}
+use Rattle.program.specs.Table.{num, spot}
 use Rattle.program.specs.Values.{bits}
 use Rattle.program.specs.Runs.{with_all, to, next, step_at, back_to, Step, sets, opens, goes, calls, returns, runs_out, begin, Reached, at_first, by, Can}
 use Rattle.program.specs.WellFormed.{Good, StOk}
 use Rattle.program.specs.Numbers.{Fits, loc, Loc, Move, on, down, up, proc_at, move_at, MoveOf, numbered}
+use Rattle.program.proofs.Sizes.{before_none}
 use Rattle.program.proofs.Nums.{bits_of, num_lt, num_append, low_part, high_part, num_blank}
 use Rattle.program.proofs.Spots.{before_inj, digits_inj, spot_mod, spot_inj}
 use Rattle.program.proofs.Kept.{step_at_is, nth_some, ok_step, reached_ok}
@@ -150,21 +151,21 @@ module _ {g : Prog} (w : Good g) {s : St} (ok : StOk g s) where
   put_did x b m d e = record { t = with_all s (put (all s) x b); step = d; top_is = put_code x b ∙ sym (rw top_bits at e); below_is = refl }
 
   flow_did : (o : Option I) → step_at g s.top ≡ o → (x y m : ℕ) → on x y ≡ at_here o → (m ≡ x) ⊎ (m ≡ y) → Did g s m (codes g s.below)
-  flow_did none h x y m e k = absurd (let z : ◌≡◌ {A = ℕ} 0 1 = cc in omega arith)
+  flow_did none h x y m e k = absurd cc
   flow_did (some (set v i)) h x y m e k = put_did v (value (all s) i) m (sets v i h) (rw top_bits (rw top_bits at (one_of e k)))
   flow_did (some (open1 v)) h x y m e (inl k) = put_did v true m (opens v true h) (k ∙ fst_of e)
   flow_did (some (open1 v)) h x y m e (inr k) = put_did v false m (opens v false h) (k ∙ snd_of e)
   flow_did (some (go i t)) h x y m e k =
       let b = value (all s) i in
       record { t = pick b (to s t) (to s (a0 + 1)); step = goes i t h; top_is = to_code b t (a0 + 1) ∙ sym (rw top_bits at (one_of e k)); below_is = ap (codes g) (to_below b t (a0 + 1)) }
-  flow_did (some (call d)) h x y m e k = absurd (let z : ◌≡◌ {A = ℕ} 0 1 = cc in omega arith)
-  flow_did (some return) h x y m e k = absurd (let z : ◌≡◌ {A = ℕ} 0 1 = cc in omega arith)
+  flow_did (some (call d)) h x y m e k = absurd cc
+  flow_did (some return) h x y m e k = absurd cc
 
   call_did : (o : Option I) → step_at g s.top ≡ o → (m r : ℕ) → down m r ≡ at_here o → Did g s m (r ∷ codes g s.below)
-  call_did none h m r e = absurd (let z : ◌≡◌ {A = ℕ} 0 1 = cc in omega arith)
-  call_did (some (set v i)) h m r e = absurd (let z : ◌≡◌ {A = ℕ} 0 1 = cc in omega arith)
-  call_did (some (open1 v)) h m r e = absurd (let z : ◌≡◌ {A = ℕ} 0 1 = cc in omega arith)
-  call_did (some (go i t)) h m r e = absurd (let z : ◌≡◌ {A = ℕ} 0 1 = cc in omega arith)
+  call_did none h m r e = absurd cc
+  call_did (some (set v i)) h m r e = absurd cc
+  call_did (some (open1 v)) h m r e = absurd cc
+  call_did (some (go i t)) h m r e = absurd cc
   call_did (some (call d)) h m r e =
       let q = nth_some g.procs d (ok_step w f0 p0 a0 (call d) ok.top.there (sym (step_at_is g s.top p0 ok.top.there) ∙ h)) in
       record {
@@ -173,14 +174,14 @@ module _ {g : Prog} (w : Good g) {s : St} (ok : StOk g s) where
         top_is = call_code d q.0 (next s.top ∷ s.below) q.1 ∙ sym (callee_of e);
         below_is = ap (λ z. z ∷ codes g s.below) (next_code ∙ sym (waiter_of e));
       }
-  call_did (some return) h m r e = absurd (let z : ◌≡◌ {A = ℕ} 0 1 = cc in omega arith)
+  call_did (some return) h m r e = absurd cc
 
   up_did : (o : Option I) → step_at g s.top ≡ o → up ≡ at_here o → (f : Frame) (fs : List Frame) → s.below ≡ f ∷ fs → Did g s (code_frame g f + code g s % 2 ^ g.shared) (codes g fs)
   up_did none h e f fs k = record { t = back_to s f fs; step = runs_out f fs h k; top_is = back_code f fs; below_is = refl }
-  up_did (some (set v i)) h e f fs k = absurd (let z : ◌≡◌ {A = ℕ} 0 1 = cc in omega arith)
-  up_did (some (open1 v)) h e f fs k = absurd (let z : ◌≡◌ {A = ℕ} 0 1 = cc in omega arith)
-  up_did (some (go i t)) h e f fs k = absurd (let z : ◌≡◌ {A = ℕ} 0 1 = cc in omega arith)
-  up_did (some (call d)) h e f fs k = absurd (let z : ◌≡◌ {A = ℕ} 0 1 = cc in omega arith)
+  up_did (some (set v i)) h e f fs k = absurd cc
+  up_did (some (open1 v)) h e f fs k = absurd cc
+  up_did (some (go i t)) h e f fs k = absurd cc
+  up_did (some (call d)) h e f fs k = absurd cc
   up_did (some return) h e f fs k = record { t = back_to s f fs; step = returns f fs h k; top_is = back_code f fs; below_is = refl }
 
   here : {m : Move} → MoveOf g (code g s) m → m ≡ at_here (step_at g s.top)
@@ -192,21 +193,17 @@ module _ {g : Prog} (w : Good g) {s : St} (ok : StOk g s) where
   backward e (pushdown.exits {x = x} {r = r} {s = cs} h) = off s.below refl e
     where
       off : (b : List Frame) → s.below ≡ b → codes g b ≡ r ∷ cs → Did g s (r + x) cs
-      off [] k q = absurd (let z : ◌≡◌ {A = ℕ} 0 1 = cc in omega arith)
+      off [] k q = absurd cc
       off (f ∷ fs) k q =
           let rq : code_frame g f ≡ r = cc in
           let cq : codes g fs ≡ cs = cc in
           subst (Did g s (r + x)) cq (subst (λ z. Did g s (r + z) (codes g fs)) (sym h.1) (subst (λ z. Did g s (z + code g s % 2 ^ g.shared) (codes g fs)) rq (up_did (step_at g s.top) refl (here h.0) f fs k)))
 
 -- runs
-before_first : (k : ℕ) (ps : List Proc) → before k ps 0 ≡ 0
-before_first k [] = refl
-before_first k (p ∷ ps) = refl
-
 pub begin_code : {g : Prog} → Good g → code g (begin g) ≡ 0
 begin_code {g} w =
     let r = nth_some g.procs 0 w.some_proc in
-    rw (before_first g.shared g.procs, r.1, num_append (blank g.shared) (blank r.0.own), num_blank g.shared, num_blank r.0.own) (omega arith)
+    rw (before_none g.shared g.procs, r.1, num_append (blank g.shared) (blank r.0.own), num_blank g.shared, num_blank r.0.own) (omega arith)
 
 pub to_numbers : {g : Prog} → Good g → {s : St} → Reached g s → pushdown.Reached (numbered g) 0 (code g s) (codes g s.below)
 to_numbers {g} w at_first = subst (λ n. pushdown.Reached (numbered g) 0 n []) (sym (begin_code w)) pushdown.stay

@@ -73,7 +73,7 @@ nth_bits (suc n) v zero h = rw (div-one v)
 nth_bits (suc n) v (suc x) h = nth_bits n (v / 2) x (omega arith) ∙ ap (λ z. some (odd z)) (half_shr v x)
 
 pub num_put : (l : List Bool) (x : ℕ) (b c : Bool) → nth l x ≡ some b → num (put l x c) + pick b 1 0 * 2 ^ x ≡ num l + pick c 1 0 * 2 ^ x
-num_put [] x b c h = let z : ◌≡◌ {A = ℕ} 0 1 = cc in absurd (omega arith)
+num_put [] x b c h = absurd cc
 num_put (d ∷ l) zero b c h = let e : d ≡ b = cc in rw e (omega arith)
 num_put (d ∷ l) (suc x) b c h = rw (two-pow-succ x) (omega (arith, num_put l x b c h))
 

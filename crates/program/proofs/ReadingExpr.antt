@@ -1,5 +1,5 @@
 -- Reading one expression: a case for each byte that comes first.
-use Rattle.std.proofs.Common.{◌≡◌, ℕ, ◌+◌, ◌<◌, ◌≤◌, List, [], ◌∷◌, ◌++◌, length, drop, Ok, Err, Result, sym, refl, ap, ◌∙◌, subst, arith}
+use Rattle.std.proofs.Common.{◌≡◌, ℕ, ◌+◌, ◌<◌, ◌≤◌, ◌⊎◌, List, [], ◌∷◌, ◌++◌, length, drop, Ok, Err, Result, sym, refl, ap, ◌∙◌, subst, ⊎_elim, arith}
 use Rattle.program.specs.declared.refusals.Refusal.{Refusal}
 use Rattle.program.specs.Program.{E, yes, var, not1, and1}
 use Rattle.program.specs.Rows.{row_e, OkE}
@@ -12,9 +12,6 @@ row_e_some yes = omega arith
 row_e_some (var x) = omega arith
 row_e_some (not1 e) = omega arith
 row_e_some (and1 e f) = omega arith
-
-pub no_expr : (n : ℕ) (s : List ℕ) (at : ℕ) → length s ≤ at → Nothing row_e (OkE n) s at
-no_expr n s at h e r k o = past_end s (row_e e) r (row_e_some e) h k
 
 -- the byte b comes first
 module _ (n : ℕ) (s : List ℕ) (at b : ℕ) (first : Stands s at (at + 1) (b ∷ [])) where
@@ -44,5 +41,6 @@ module _ (n : ℕ) (s : List ℕ) (at b : ℕ) (first : Stands s at (at + 1) (b 
       let p = prefix_e k.it m.0 _ _ (sym k.stands.is ∙ m.3) in
       l m.1 r p.1 (subst (OkE n) m.2 o).1
 
-  pub no_kind : 4 ≤ b → Nothing row_e (OkE n) s at
-  no_kind g e r q o = unknown_e b _ r e g (seen_e b refl e r q)
+-- no byte comes first, or one that begins no expression
+pub no_expr : (n : ℕ) (s : List ℕ) (at : ℕ) {P : ℕ → Type 0} → (length s ≤ at) ⊎ ((b : ℕ) × Stands s at (at + 1) (b ∷ []) × ((4 ≤ b) × P b)) → Nothing row_e (OkE n) s at
+no_expr n s at h e r q o = ⊎_elim (λ l. past_end s (row_e e) r (row_e_some e) l q) (λ k. unknown_e k.0 _ r e k.2.0 (seen_e n s at k.0 k.1 k.0 refl e r q)) h

@@ -6,7 +6,7 @@ use Rattle.program.specs.declared.steps.Scope.{Scope}
 use Rattle.program.specs.Program.{I, Proc}
 use Rattle.program.specs.Rows.{row_i, row_p, rows, OkI, OkP, Every}
 use Rattle.program.specs.Reading.{Stands, Nothing, InScope, ReadByte, ReadNumber, ReadStep, NoSteps, ReadSteps, ReadProc}
-use Rattle.program.proofs.Standing.{heads, tails, stands_none, stands_join, stands_pair, past_end, second}
+use Rattle.program.proofs.Standing.{heads, tails, stands_none, stands_join, stands_pair, second}
 use Rattle.program.proofs.Prefix.{prefix_i}
 
 module _ (sc : Scope) (s : List ℕ) where
@@ -33,12 +33,12 @@ module _ (k m : ℕ) (s : List ℕ) (at : ℕ) where
     after_own : (p : Proc) (r : List ℕ) → drop at s ≡ row_p p ++ r → (x ≡ p.own) × (drop (at + 1) s ≡ length p.steps ∷ (rows row_i p.steps ++ r))
     after_own p r h = let e = sym own.0.is ∙ h in (heads e, tails e)
 
-    pub no_count : length s ≤ at + 1 → Nothing row_p (OkP k m) s at
-    no_count q p r h o = past_end s (length p.steps ∷ []) _ (omega arith) q (after_own p r h).1
-
     module _ (y : ℕ) (count : ReadByte s (at + 1) (Ok y)) where
       abbrev pub inside : Scope
       inside = record { vars = k + x; last = record { 0 = y }; procs = m }
+
+      pub inside_is : (c : Scope) → c.vars ≡ k + x → c.last.0 ≡ y → c.procs ≡ m → c ≡ inside
+      inside_is c v l p = λ i. record { vars = v i; last = record { 0 = l i }; procs = p i }
 
       pub no_body : NoSteps inside s y (at + 2) → Nothing row_p (OkP k m) s at
       no_body q p r h o =

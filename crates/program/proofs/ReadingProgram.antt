@@ -7,7 +7,7 @@ use Rattle.program.specs.declared.procedures.Procedure.{Procedure}
 use Rattle.program.specs.declared.programs.Tally.{Tally}
 use Rattle.program.specs.Program.{I, set, open1, go, call, return, Proc, Prog}
 use Rattle.program.specs.Rows.{row_p, rows, OkI, OkP, Every, Reads}
-use Rattle.program.specs.Reading.{Nothing, NoNumber, ReadNumber, ReadProc, AllProcs, NoProcs, ReadProcs, NoProgram, ReadProgram}
+use Rattle.program.specs.Reading.{Nothing, ReadNumber, ReadProc, AllProcs, NoProcs, ReadProcs, NoProgram, ReadProgram}
 use Rattle.program.specs.Table.{size, total}
 use Rattle.program.proofs.Standing.{heads}
 use Rattle.program.proofs.Prefix.{prefix_p, one_list}
@@ -66,12 +66,6 @@ module _ (s : List ℕ) where
   -- what a program's bytes say of its procedures
   all_procs : (g : Prog) → Reads s g → AllProcs g.shared (length g.procs) s 1 64 g.procs
   all_procs g r = record { is = ap (drop 1) (sym r.bytes); few = r.most; fine = r.procs }
-
-  pub too_long : 8192 < length s → NoProgram s
-  too_long h g r = omega (arith, r.long)
-
-  pub no_shared : NoNumber 7 s 0 → NoProgram s
-  no_shared q g r = q g.shared _ (sym r.bytes) (omega (arith, r.few))
 
   module _ (k : ℕ) (shared : ReadNumber 7 s 0 (Ok k)) where
     same : (g : Prog) → Reads s g → g.shared ≡ k

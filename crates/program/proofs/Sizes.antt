@@ -22,7 +22,7 @@ pub before_next : (k : ℕ) (ps : List Proc) (f : ℕ) (p : Proc) → nth ps f �
 before_next k ps f p e = rw (add-one f) (go ps f e)
   where
     go : (ps : List Proc) (f : ℕ) → nth ps f ≡ some p → before k ps (suc f) ≡ before k ps f + size k p
-    go [] f e = absurd (let z : ◌≡◌ {A = ℕ} 0 1 = cc in omega arith)
+    go [] f e = absurd cc
     go (q ∷ []) zero e = let s : size k q ≡ size k p = cc in omega arith
     go (q ∷ r ∷ ps) zero e = let s : size k q ≡ size k p = cc in omega arith
     go (q ∷ ps) (suc f) e = omega (arith, go ps f e)

@@ -1,10 +1,11 @@
 -- Each place with values of a program has a number below the table's length, and each such number is
 -- one place with values. All sizes are multiples of 2 ^ k, so the number modulo 2 ^ k is the shared part.
-use Rattle.std.proofs.Common.{◌≡◌, ℕ, zero, suc, ◌+◌, ◌-◌, ◌*◌, ◌/◌, ◌%◌, ◌^◌, ◌<◌, Bool, List, [], ◌∷◌, ◌++◌, length, sym, refl, ap, ◌∙◌, ap₂, arith, length-append}
+use Rattle.std.proofs.Common.{take, drop, ◌≡◌, ℕ, zero, suc, ◌+◌, ◌-◌, ◌*◌, ◌/◌, ◌%◌, ◌^◌, ◌<◌, Bool, List, [], ◌∷◌, ◌++◌, length, sym, refl, ap, ◌∙◌, arith, length-append}
 use mathlib.Core.Option.{some}
 use native.Mathlib.Decide.{dec_lt}
 use lib.Arith.{digits_lt}
 use Rattle.std.proofs.lemmas.Nat.{pow_pos, pow-add, div-mul-add, mod-mul-add, div_below, mod_below, div-add-mod'}
+use Rattle.std.proofs.Math.Seq.{take-append_seam, drop-append_seam}
 use Rattle.program.specs.Program.{nth, Proc, Prog}
 use Rattle.program.specs.Table.{num, size, before, total, spot}
 use Rattle.program.specs.Values.{bits}
@@ -13,12 +14,12 @@ use Rattle.program.proofs.Nums.{num_bits, num_lt, num_append, num_inj, length_bi
 
 -- place i within procedure f, in a list of procedures
 pub before_lt : (k : ℕ) (ps : List Proc) (f : ℕ) (p : Proc) (i : ℕ) → nth ps f ≡ some p → i < size k p → before k ps f + i < total k ps
-before_lt k [] f p i e h = let z : ◌≡◌ {A = ℕ} 0 1 = cc in absurd (omega arith)
+before_lt k [] f p i e h = absurd cc
 before_lt k (q ∷ ps) zero p i e h = let r : size k q ≡ size k p = cc in omega arith
 before_lt k (q ∷ ps) (suc f) p i e h = omega (arith, before_lt k ps f p i e h)
 
 pub before_inj : (k : ℕ) (ps : List Proc) (f f' : ℕ) (p p' : Proc) (i i' : ℕ) → nth ps f ≡ some p → nth ps f' ≡ some p' → i < size k p → i' < size k p' → before k ps f + i ≡ before k ps f' + i' → (f ≡ f') × (i ≡ i')
-before_inj k [] f f' p p' i i' e e' h h' same = let z : ◌≡◌ {A = ℕ} 0 1 = cc in absurd (omega arith)
+before_inj k [] f f' p p' i i' e e' h h' same = absurd cc
 before_inj k (q ∷ ps) zero zero p p' i i' e e' h h' same = (refl, omega arith)
 before_inj k (q ∷ ps) zero (suc f') p p' i i' e e' h h' same = let r : size k q ≡ size k p = cc in absurd (omega arith)
 before_inj k (q ∷ ps) (suc f) zero p p' i i' e e' h h' same = let r : size k q ≡ size k p' = cc in absurd (omega arith)
@@ -81,14 +82,7 @@ module _ (w : ℕ) where
   digits_inj a a' v v' h h' e = (sym (div-mul-add a w v h) ∙ ap (λ z. z / w) e ∙ div-mul-add a' w v' h', sym (mod-mul-add a w v h) ∙ ap (λ z. z % w) e ∙ mod-mul-add a' w v' h')
 
 pub append_inj : (xs xs' ys ys' : List Bool) → length xs ≡ length xs' → xs ++ ys ≡ xs' ++ ys' → (xs ≡ xs') × (ys ≡ ys')
-append_inj [] [] ys ys' l e = (refl, e)
-append_inj [] (x ∷ xs) ys ys' l e = absurd (omega arith)
-append_inj (x ∷ xs) [] ys ys' l e = absurd (omega arith)
-append_inj (x ∷ xs) (x' ∷ xs') ys ys' l e =
-    let t : xs ++ ys ≡ xs' ++ ys' = cc in
-    let hd : x ≡ x' = cc in
-    let r = append_inj xs xs' ys ys' (omega arith) t in
-    (ap₂ ◌∷◌ hd r.0, r.1)
+append_inj xs xs' ys ys' l e = (sym (take-append_seam xs ys) ∙ (λ i. take (l i) (e i)) ∙ take-append_seam xs' ys', sym (drop-append_seam xs ys) ∙ (λ i. drop (l i) (e i)) ∙ drop-append_seam xs' ys')
 
 pub spot_inj : {g : Prog} {f f' : ℕ} {p p' : Proc} {a a' : ℕ} {sh sh' own own' : List Bool} → Fits g f p a sh own → Fits g f' p' a' sh' own' →
     spot g f p a sh own ≡ spot g f' p' a' sh' own' → Same f f' a a' sh sh' own own'

@@ -41,7 +41,6 @@ pub record Called (g : Prog) (m r f : ℕ) (p : Proc) (a v : ℕ) : Type 0 where
   pub there : nth g.procs d ≡ some q
   pub step : nth p.steps a ≡ some (call d)
   pub callee : m ≡ loc g d q 0 (v % 2 ^ g.shared)
-  pub waiter : r ≡ loc g f p (a + 1) (v / 2 ^ g.shared * 2 ^ g.shared)
   pub resumed : (x : ℕ) → x < 2 ^ g.shared → Loc g (r + x) f p (a + 1) (v / 2 ^ g.shared * 2 ^ g.shared + x)
 
 -- a procedure begins in the table, with any shared values
@@ -71,20 +70,20 @@ module _ {g : Prog} (w : Good g) where
 
     -- a move within a procedure stays in it
     flow_near : (o : Option I) → nth p.steps a ≡ o → (x y m : ℕ) → on x y ≡ move_at g f p a v o → (m ≡ x) ⊎ (m ≡ y) → In g m f p
-    flow_near none i x y m e k = absurd (let z : ◌≡◌ {A = ℕ} 0 1 = cc in omega arith)
+    flow_near none i x y m e k = absurd cc
     flow_near (some (set q j)) i x y m e k = near (a + 1) _ m (omega (arith, nth_lt p.steps a (set q j) i)) (put_lt q (value (bits (g.shared + p.own) v) j)) (one_of e k)
     flow_near (some (open1 q)) i x y m e (inl k) = near (a + 1) _ m (omega (arith, nth_lt p.steps a (open1 q) i)) (put_lt q true) (k ∙ fst_of e)
     flow_near (some (open1 q)) i x y m e (inr k) = near (a + 1) _ m (omega (arith, nth_lt p.steps a (open1 q) i)) (put_lt q false) (k ∙ snd_of e)
     flow_near (some (go j t)) i x y m e k = way (value (bits (g.shared + p.own) v) j) t m (ok_step w f p a (go j t) h.there i).0 (nth_lt p.steps a (go j t) i) (one_of e k)
-    flow_near (some (call d)) i x y m e k = absurd (let z : ◌≡◌ {A = ℕ} 0 1 = cc in omega arith)
-    flow_near (some return) i x y m e k = absurd (let z : ◌≡◌ {A = ℕ} 0 1 = cc in omega arith)
+    flow_near (some (call d)) i x y m e k = absurd cc
+    flow_near (some return) i x y m e k = absurd cc
 
     call_near : (o : Option I) → nth p.steps a ≡ o → (m r : ℕ) → down m r ≡ move_at g f p a v o → Called g m r f p a v
-    call_near none i m r e = absurd (let z : ◌≡◌ {A = ℕ} 0 1 = cc in omega arith)
-    call_near (some (set q j)) i m r e = absurd (let z : ◌≡◌ {A = ℕ} 0 1 = cc in omega arith)
-    call_near (some (open1 q)) i m r e = absurd (let z : ◌≡◌ {A = ℕ} 0 1 = cc in omega arith)
-    call_near (some (go j t)) i m r e = absurd (let z : ◌≡◌ {A = ℕ} 0 1 = cc in omega arith)
-    call_near (some return) i m r e = absurd (let z : ◌≡◌ {A = ℕ} 0 1 = cc in omega arith)
+    call_near none i m r e = absurd cc
+    call_near (some (set q j)) i m r e = absurd cc
+    call_near (some (open1 q)) i m r e = absurd cc
+    call_near (some (go j t)) i m r e = absurd cc
+    call_near (some return) i m r e = absurd cc
     call_near (some (call d)) i m r e =
         let K = 2 ^ g.shared in
         let q = nth_some g.procs d (ok_step w f p a (call d) h.there i) in
@@ -96,7 +95,6 @@ module _ {g : Prog} (w : Good g) where
           there = q.1;
           step = i;
           callee = callee_of e ∙ at0;
-          waiter = waiter_of e;
           resumed = λ x l. record { there = h.there; place = omega (arith, nth_lt p.steps a (call d) i); small = shared_lt g.shared p.own v x h.small l; is = ap (λ z. z + x) (waiter_of e) ∙ inner x };
         }
 

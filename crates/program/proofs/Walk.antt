@@ -9,7 +9,7 @@ use Rattle.program.specs.Walking.{Rest}
 use Rattle.program.proofs.Prefix.{prefix_p}
 
 pub every_nth : {A : Type 0} (P : A → Type 0) (xs : List A) (n : ℕ) (x : A) → Every P xs → nth xs n ≡ some x → P x
-every_nth P [] n x o e = absurd (let z : ◌≡◌ {A = ℕ} 0 1 = cc in omega arith)
+every_nth P [] n x o e = absurd cc
 every_nth P (y ∷ xs) zero x o e = let same : y ≡ x = cc in subst P same o.0
 every_nth P (y ∷ xs) (suc n) x o e = every_nth P xs n x o.1 e
 

@@ -3,10 +3,12 @@
 pub mod Program
 pub mod Runs
 pub mod Rows
+pub mod Kinds
 pub mod Table
 pub mod Values
 pub mod Reading
 pub mod Walking
+pub mod Walks
 pub mod Systems
 pub mod Numbers
 pub mod WellFormed

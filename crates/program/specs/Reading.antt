@@ -1,5 +1,6 @@
 -- What a reader of bytes answers: what stands there and where it ends, or that nothing does.
-use Rattle.std.specs.Prelude.{◌≡◌, ℕ, ◌+◌, ◌<◌, ◌≤◌, List, [], ◌∷◌, ◌++◌, length, drop, Ok, Err, Result}
+use Rattle.std.specs.Prelude.{◌≡◌, ℕ, ◌+◌, ◌<◌, ◌≤◌, ◌⊎◌, List, [], ◌∷◌, ◌++◌, length, drop, Ok, Err, Result}
+use Rattle.program.specs.declared.refusals.Reason.{Reason}
 use Rattle.program.specs.declared.refusals.Refusal.{Refusal}
 use Rattle.program.specs.declared.steps.Step.{Step}
 use Rattle.program.specs.declared.steps.Step.TheVariants.{Set, Open, Go, Call, Return}
@@ -40,6 +41,11 @@ NoNumber m s at = (x : ℕ) (r : List ℕ) → drop at s ≡ x ∷ r → x < m �
 abbrev pub ReadNumber : ℕ → List ℕ → ℕ → Result ℕ Refusal → Type 0
 ReadNumber m s at (Ok x) = Stands s at (at + 1) (x ∷ []) × (x < m)
 ReadNumber m s at (Err e) = NoNumber m s at
+
+-- the kind of which the byte is, if there is one and it is of one, where `gives` says which byte is of which
+abbrev pub ReadKind : {K : Type 0} → (ℕ → Result K Reason → Type 0) → List ℕ → ℕ → Result K Refusal → Type 0
+ReadKind gives s at (Ok k) = (b : ℕ) × Stands s at (at + 1) (b ∷ []) × gives b (Ok k)
+ReadKind gives s at (Err e) = (length s ≤ at) ⊎ ((b : ℕ) × Stands s at (at + 1) (b ∷ []) × gives b (Err e.reason))
 
 -- an expression over n variables, by its end
 abbrev pub ReadExpr : ℕ → List ℕ → ℕ → Result ℕ Refusal → Type 0

@@ -1,5 +1,6 @@
-// Single bytes of a program: the leaves of the reader.
-ghost use Rattle.program.specs.Reading.{ReadByte, ReadNumber};
+// Single bytes of a program: the leaves of the reader. Places in the bytes are passed by value and not in
+// a cursor that moves on, since a step keeps where its expression stands, and evaluating goes back there.
+ghost use Rattle.program.specs.Reading.{ReadByte, ReadNumber, ReadKind};
 
 use crate::refusals::{Reason, Refusal};
 
@@ -22,9 +23,17 @@ pub fn read_number(bytes: &[u8], at: usize, limit: usize, reason: Reason) -> Res
     ensures { ReadNumber limit bytes.now at result }
 {
     let number = read_byte(bytes, at)?;
-    if (number as usize) < limit {
+    if usize::from(number) < limit {
         Ok(number)
     } else {
         Err(Refusal { at, reason })
     }
+}
+
+// The kind that the byte at `at` stands for.
+pub fn read_kind<K: TryFrom<u8, Error = Reason>>(bytes: &[u8], at: usize) -> Result<K, Refusal>
+    ensures { ReadKind K.try_from_gives bytes.now at result }
+{
+    let byte = read_byte(bytes, at)?;
+    K::try_from(byte).map_err(|reason| Refusal { at, reason })
 }

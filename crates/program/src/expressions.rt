@@ -2,33 +2,30 @@
 ghost use Rattle.program.specs.Reading.{ReadExpr};
 ghost use Rattle.program.specs.Values.{Has, Evals};
 
-use crate::bytes::{read_byte, read_number};
+use crate::bytes::{read_kind, read_number};
+use crate::kinds::ExpressionKind;
 use crate::refusals::{Reason, Refusal};
 
 // Where the expression at `at` ends, over variables below `vars`.
+#[tactic(auto, using(crate::proofs::ReadingExpr::no_var, crate::proofs::ReadingExpr::is_not, crate::proofs::ReadingExpr::no_and, crate::proofs::ReadingExpr::is_and))]
 pub fn read_expression(bytes: &[u8], at: usize, vars: usize) -> Result<usize, Refusal>
     ensures { ReadExpr vars bytes.now at result }
 {
-    let tag = read_byte(bytes, at)?;
-    match tag {
-        0 => Ok(at + 1),
-        1 => {
+    match read_kind(bytes, at)? {
+        ExpressionKind::Yes => Ok(at + 1),
+        ExpressionKind::Var => {
             let _var = read_number(bytes, at + 1, vars, Reason::NoSuchVariable)?;
             Ok(at + 2)
         }
-        2 => read_expression(bytes, at + 1, vars),
-        3 => {
+        ExpressionKind::Not => read_expression(bytes, at + 1, vars),
+        ExpressionKind::And => {
             let mid = read_expression(bytes, at + 1, vars)?;
             read_expression(bytes, mid, vars)
         }
-        4..=255 => Err(Refusal {
-            at,
-            reason: Reason::UnknownExpression,
-        }),
     }
 }
 
-// What an expression says, and where it ends.
+// What an expression says, and where it ends: both are always there, so this is no Option.
 #[derive(Clone, Copy)]
 pub struct Valued {
     pub holds: bool,
@@ -40,23 +37,26 @@ pub fn evaluate(bytes: &[u8], at: usize, values: u32) -> Valued
     requires { Has 32 bytes.now at }
     ensures { Evals bytes.now at values result }
 {
-    match bytes[at] {
-        0 => Valued {
+    let Ok(kind) = ExpressionKind::try_from(bytes[at]) else {
+        unreachable()
+    };
+    match kind {
+        ExpressionKind::Yes => Valued {
             holds: true,
             end: at + 1,
         },
-        1 => Valued {
+        ExpressionKind::Var => Valued {
             holds: (values >> bytes[at + 1]) % 2 == 1,
             end: at + 2,
         },
-        2 => {
+        ExpressionKind::Not => {
             let part = evaluate(bytes, at + 1, values);
             Valued {
                 holds: !part.holds,
                 end: part.end,
             }
         }
-        3 => {
+        ExpressionKind::And => {
             let left = evaluate(bytes, at + 1, values);
             let right = evaluate(bytes, left.end, values);
             Valued {
@@ -64,6 +64,5 @@ pub fn evaluate(bytes: &[u8], at: usize, values: u32) -> Valued
                 end: right.end,
             }
         }
-        4..=255 => unreachable(),
     }
 }

@@ -5,6 +5,7 @@
 
 pub mod bytes;
 pub mod expressions;
+pub mod kinds;
 pub mod laws;
 pub mod procedures;
 pub mod programs;
@@ -13,3 +14,4 @@ pub mod steps;
 #[cfg(test)]
 mod tests;
 pub mod values;
+pub mod walks;

@@ -4,7 +4,7 @@ ghost use Rattle.program.specs.Reading.{ReadSteps, ReadProc};
 
 use crate::bytes::{read_byte, read_number};
 use crate::refusals::{Reason, Refusal};
-use crate::steps::{PlaceNo, Scope, read_step};
+use crate::steps::{Scope, read_step};
 
 // The most variables that are shared, and that a procedure has of its own.
 pub const MOST_VARIABLES: usize = 6;
@@ -29,20 +29,23 @@ pub fn values(variables: u8) -> usize
 
 // The bytes that a procedure has in the table: for each place, up to the one behind the last step,
 // one for each of the values of its variables.
+#[tactic(auto, using(crate::proofs::Sizes::part_small))]
 pub fn table_size(shared: u8, own: u8, steps: u8) -> usize
     requires { (shared ≤ 6) × (own ≤ 6) }
     ensures is { result ≡ (steps + 1) * 2 ^ (shared + own) }
     ensures small { result ≤ 2 ^ 20 }
 {
-    (steps as usize + 1) * values(shared + own)
+    (usize::from(steps) + 1) * values(shared + own)
 }
 
 // Where `count` steps from `at` on end.
+#[tactic(auto, using(crate::proofs::ReadingProc::steps_more))]
 fn read_steps(bytes: &[u8], at: usize, count: u8, scope: Scope) -> Result<usize, Refusal>
     requires { at ≤ length bytes.now }
     ensures { ReadSteps scope bytes.now count at result }
 {
     let mut end = at;
+    // a `try_fold` would be the same `?` in a closure
     for _i in 0..count {
         let found = read_step(bytes, end, scope)?;
         end = found.end;
@@ -61,11 +64,7 @@ pub fn read_procedure(
 {
     let own = read_number(bytes, at, MOST_VARIABLES + 1, Reason::TooManyVariables)?;
     let steps = read_byte(bytes, at + 1)?;
-    let scope = Scope {
-        vars: shared as usize + own as usize,
-        last: PlaceNo(steps),
-        procs,
-    };
+    let scope = Scope::new(shared, own, steps, procs);
     let end = read_steps(bytes, at + 2, steps, scope)?;
     Ok(Procedure {
         own,

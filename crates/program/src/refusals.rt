@@ -1,7 +1,7 @@
 // Why bytes are no program.
 
 // What is wrong.
-#[derive(Clone, Copy, PartialEq, Debug)]
+#[derive(Clone, Copy, PartialEq, Eq, Debug)]
 pub enum Reason {
     TooLong,
     EndsEarly,
@@ -16,7 +16,7 @@ pub enum Reason {
 }
 
 // Where no program can go on, and why.
-#[derive(Clone, Copy, PartialEq, Debug)]
+#[derive(Clone, Copy, PartialEq, Eq, Debug)]
 pub struct Refusal {
     pub at: usize,
     pub reason: Reason,

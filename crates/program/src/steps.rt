@@ -1,9 +1,14 @@
 // Steps of a procedure, read one at a time.
+ghost use Rattle.std.specs.Prelude.{◌≡◌, ◌+◌};
 ghost use Rattle.program.specs.Reading.{ReadStep};
 
-use crate::bytes::{read_byte, read_number};
+use crate::bytes::{read_kind, read_number};
 use crate::expressions::read_expression;
+use crate::kinds::StepKind;
 use crate::refusals::{Reason, Refusal};
+
+// The numbers here fit a byte. Those of a tree, which may be too large, are types of its own crate: one
+// generic type for both would name a width wherever a number is named.
 
 // A procedure's number: procedure 0 begins.
 #[derive(Clone, Copy)]
@@ -17,7 +22,7 @@ pub struct PlaceNo(pub u8);
 #[derive(Clone, Copy)]
 pub struct VarNo(pub u8);
 
-// An expression, by where it stands in the bytes.
+// An expression, by where it stands in the bytes: there is no heap here for a tree of it.
 #[derive(Clone, Copy)]
 pub struct ExprAt(pub usize);
 
@@ -46,13 +51,28 @@ pub struct Scope {
     pub procs: usize,
 }
 
+impl Scope {
+    // What the steps may name of a procedure with so many variables of its own and so many steps, where
+    // so many variables are shared and there are so many procedures.
+    pub fn new(shared: u8, own: u8, steps: u8, procs: usize) -> Scope
+        ensures vars { result.vars ≡ shared + own }
+        ensures last { result.last.0 ≡ steps }
+        ensures procs { result.procs ≡ procs }
+    {
+        Scope {
+            vars: usize::from(shared) + usize::from(own),
+            last: PlaceNo(steps),
+            procs,
+        }
+    }
+}
+
 // The step at `at`.
 pub fn read_step(bytes: &[u8], at: usize, scope: Scope) -> Result<Found, Refusal>
     ensures { ReadStep scope bytes.now at result }
 {
-    let tag = read_byte(bytes, at)?;
-    match tag {
-        0 => {
+    match read_kind(bytes, at)? {
+        StepKind::Set => {
             let var = read_number(bytes, at + 1, scope.vars, Reason::NoSuchVariable)?;
             let end = read_expression(bytes, at + 2, scope.vars)?;
             Ok(Found {
@@ -63,15 +83,15 @@ pub fn read_step(bytes: &[u8], at: usize, scope: Scope) -> Result<Found, Refusal
                 end,
             })
         }
-        1 => {
+        StepKind::Open => {
             let open = read_number(bytes, at + 1, scope.vars, Reason::NoSuchVariable)?;
             Ok(Found {
                 step: Step::Open(VarNo(open)),
                 end: at + 2,
             })
         }
-        2 => {
-            let places = scope.last.0 as usize + 1;
+        StepKind::Go => {
+            let places = usize::from(scope.last.0) + 1;
             let place = read_number(bytes, at + 1, places, Reason::NoSuchPlace)?;
             let past = read_expression(bytes, at + 2, scope.vars)?;
             Ok(Found {
@@ -82,20 +102,16 @@ pub fn read_step(bytes: &[u8], at: usize, scope: Scope) -> Result<Found, Refusal
                 end: past,
             })
         }
-        3 => {
+        StepKind::Call => {
             let callee = read_number(bytes, at + 1, scope.procs, Reason::NoSuchProcedure)?;
             Ok(Found {
                 step: Step::Call(ProcNo(callee)),
                 end: at + 2,
             })
         }
-        4 => Ok(Found {
+        StepKind::Return => Ok(Found {
             step: Step::Return,
             end: at + 1,
-        }),
-        5..=255 => Err(Refusal {
-            at,
-            reason: Reason::UnknownStep,
         }),
     }
 }

@@ -1,55 +1,45 @@
 // What the reader says of good and bad bytes, at each limit on both sides, and what expressions are worth.
 use crate::expressions::{evaluate, read_expression};
+use crate::kinds::{ExpressionKind, StepKind};
 use crate::programs::{Header, read};
 use crate::refusals::{Reason, Refusal};
+use crate::walks::{Procedures, Steps};
 use std::alloc::{AllocError, Global};
 use std::test::Fail;
 
-#[derive(Clone, Copy)]
-struct Refused<'a>(&'a [u8], usize, Reason);
-
 #[test]
 fn each_reason_of_refusal(rt: HostRuntime) {
-    let cases = [
-        Refused(&[], 0, Reason::EndsEarly),
-        Refused(&[7, 0, 0], 0, Reason::TooManyVariables),
-        Refused(&[0], 1, Reason::NoProcedure),
-        Refused(&[0, 7, 0], 1, Reason::TooManyVariables),
-        Refused(&[0, 0], 2, Reason::EndsEarly),
-        Refused(&[0, 0, 1], 3, Reason::EndsEarly),
-        Refused(&[0, 0, 1, 5], 3, Reason::UnknownStep),
-        Refused(&[0, 0, 1, 255], 3, Reason::UnknownStep),
-        Refused(&[1, 0, 1, 1], 4, Reason::EndsEarly),
-        Refused(&[1, 0, 1, 1, 1], 4, Reason::NoSuchVariable),
-        Refused(&[1, 0, 1, 0, 1, 0], 4, Reason::NoSuchVariable),
-        Refused(&[1, 0, 1, 0, 0, 1, 1], 6, Reason::NoSuchVariable),
-        Refused(&[1, 0, 1, 0, 0, 4], 5, Reason::UnknownExpression),
-        Refused(&[1, 0, 1, 0, 0, 3, 0], 7, Reason::EndsEarly),
-        Refused(&[1, 0, 1, 2, 2, 0], 4, Reason::NoSuchPlace),
-        Refused(&[0, 0, 1, 3, 1], 4, Reason::NoSuchProcedure),
-        Refused(&[0, 0, 1, 3, 64], 4, Reason::NoSuchProcedure),
+    let cases: [(&[u8], usize, Reason); 18] = [
+        (&[], 0, Reason::EndsEarly),
+        (&[7, 0, 0], 0, Reason::TooManyVariables),
+        (&[0], 1, Reason::NoProcedure),
+        (&[0, 7, 0], 1, Reason::TooManyVariables),
+        (&[0, 0], 2, Reason::EndsEarly),
+        (&[0, 0, 1], 3, Reason::EndsEarly),
+        (&[0, 0, 1, 5], 3, Reason::UnknownStep),
+        (&[0, 0, 1, 255], 3, Reason::UnknownStep),
+        (&[1, 0, 1, 1], 4, Reason::EndsEarly),
+        (&[1, 0, 1, 1, 1], 4, Reason::NoSuchVariable),
+        (&[1, 0, 1, 0, 1, 0], 4, Reason::NoSuchVariable),
+        (&[1, 0, 1, 0, 0, 1, 1], 6, Reason::NoSuchVariable),
+        (&[1, 0, 1, 0, 0, 4], 5, Reason::UnknownExpression),
+        (&[1, 0, 1, 0, 0, 3, 0], 7, Reason::EndsEarly),
+        (&[1, 0, 1, 2, 2, 0], 4, Reason::NoSuchPlace),
+        (&[0, 0, 1, 3, 1], 4, Reason::NoSuchProcedure),
+        (&[0, 0, 1, 3, 64], 4, Reason::NoSuchProcedure),
         // a call of procedure 5 can still come good where the bytes go wrong, so this is told first
-        Refused(&[0, 0, 2, 3, 5, 5], 5, Reason::UnknownStep),
+        (&[0, 0, 2, 3, 5, 5], 5, Reason::UnknownStep),
     ];
-    for case in cases {
-        assert_eq!(rt;
-            read(case.0),
-            Err(Refusal {
-                at: case.1,
-                reason: case.2,
-            })
-        );
+    for (bytes, at, reason) in cases {
+        assert_eq!(rt; read(bytes), Err(Refusal { at, reason }));
     }
 }
-
-#[derive(Clone, Copy)]
-struct Accepted<'a>(&'a [u8], Header);
 
 #[test]
 fn small_programs(rt: HostRuntime) {
     let ring = [1, 0, 1, 3, 1, 1, 4, 1, 1, 2, 3, 1, 1, 3, 1, 0, 0, 2, 1, 0];
-    let cases = [
-        Accepted(
+    let cases: [(&[u8], Header); 4] = [
+        (
             &[0, 0, 0],
             Header {
                 shared: 0,
@@ -59,7 +49,7 @@ fn small_programs(rt: HostRuntime) {
             },
         ),
         // going to the place behind the last step
-        Accepted(
+        (
             &[1, 0, 1, 2, 1, 0],
             Header {
                 shared: 1,
@@ -68,7 +58,7 @@ fn small_programs(rt: HostRuntime) {
                 work: 4136,
             },
         ),
-        Accepted(
+        (
             &[6, 6, 0],
             Header {
                 shared: 6,
@@ -77,7 +67,7 @@ fn small_programs(rt: HostRuntime) {
                 work: 299008,
             },
         ),
-        Accepted(
+        (
             &ring,
             Header {
                 shared: 1,
@@ -87,8 +77,8 @@ fn small_programs(rt: HostRuntime) {
             },
         ),
     ];
-    for case in cases {
-        assert_eq!(rt; read(case.0), Ok(case.1));
+    for (bytes, header) in cases {
+        assert_eq!(rt; read(bytes), Ok(header));
     }
 }
 
@@ -181,31 +171,58 @@ fn deeply_nested(rt: HostRuntime) -> Result<(), Fail> {
     Ok(())
 }
 
-#[derive(Clone, Copy)]
-struct Worth<'a>(&'a [u8], u32, bool);
-
 #[test]
 fn values_of_expressions(rt: HostRuntime) -> Result<(), Fail> {
-    let cases = [
-        Worth(&[0], 0, true),
-        Worth(&[2, 0], 0, false),
-        Worth(&[1, 0], 1, true),
-        Worth(&[1, 0], 0b1110, false),
-        Worth(&[1, 11], 1 << 11, true),
-        Worth(&[3, 1, 0, 1, 1], 0b11, true),
-        Worth(&[3, 1, 0, 1, 1], 0b01, false),
-        Worth(&[3, 1, 0, 1, 1], 0b10, false),
+    let cases: [(&[u8], u32, bool); 10] = [
+        (&[0], 0, true),
+        (&[2, 0], 0, false),
+        (&[1, 0], 1, true),
+        (&[1, 0], 0b1110, false),
+        (&[1, 11], 1 << 11, true),
+        (&[3, 1, 0, 1, 1], 0b11, true),
+        (&[3, 1, 0, 1, 1], 0b01, false),
+        (&[3, 1, 0, 1, 1], 0b10, false),
         // not (not x0 and not x1): x0 or x1
-        Worth(&[2, 3, 2, 1, 0, 2, 1, 1], 0b10, true),
-        Worth(&[2, 3, 2, 1, 0, 2, 1, 1], 0b00, false),
+        (&[2, 3, 2, 1, 0, 2, 1, 1], 0b10, true),
+        (&[2, 3, 2, 1, 0, 2, 1, 1], 0b00, false),
     ];
-    for case in cases {
-        let Ok(end) = read_expression(case.0, 0, 32) else {
+    for (bytes, values, holds) in cases {
+        let Ok(end) = read_expression(bytes, 0, 32) else {
             return Err(Fail::new("no expression"));
         };
-        let valued = evaluate(case.0, 0, case.1);
-        assert_eq!(rt; valued.holds, case.2);
+        let valued = evaluate(bytes, 0, values);
+        assert_eq!(rt; valued.holds, holds);
         assert_eq!(rt; valued.end, end);
     }
     Ok(())
+}
+
+// The walks through a program of two procedures, of which the second has four steps.
+#[test]
+fn walks_of_a_program(rt: HostRuntime) -> Result<(), Fail> {
+    let ring = [1, 0, 1, 3, 1, 1, 4, 1, 1, 2, 3, 1, 1, 3, 1, 0, 0, 2, 1, 0];
+    let Ok(header) = read(&ring) else {
+        return Err(Fail::new("no program"));
+    };
+    let mut ends = [0; 2];
+    let mut steps = [0; 2];
+    for (number, procedure) in Procedures::new(&ring, header).enumerate() {
+        if number < 2 {
+            ends[number] = procedure.end;
+            steps[number] = Steps::new(&ring, procedure, header.scope(procedure)).count();
+        }
+    }
+    assert_eq!(rt; ends, [5, 20]);
+    assert_eq!(rt; steps, [1, 4]);
+    Ok(())
+}
+
+#[test]
+fn kinds_by_their_bytes(rt: HostRuntime) {
+    assert_eq!(rt; ExpressionKind::try_from(3), Ok(ExpressionKind::And));
+    assert_eq!(rt; ExpressionKind::try_from(4), Err(Reason::UnknownExpression));
+    assert_eq!(rt; u8::from(ExpressionKind::Not), 2);
+    assert_eq!(rt; StepKind::try_from(4), Ok(StepKind::Return));
+    assert_eq!(rt; StepKind::try_from(5), Err(Reason::UnknownStep));
+    assert_eq!(rt; u8::from(StepKind::Go), 2);
 }

@@ -3,12 +3,25 @@
 ghost use Rattle.std.specs.Prelude.{◌<◌, true, false};
 ghost use Rattle.program.specs.Values.{Puts, Tests};
 
+// The values with variable `var` become `yes`.
+#[tactic(auto, using(crate::proofs::Nums::bits_yes, crate::proofs::Nums::yes_lt, crate::proofs::Nums::bits_no, crate::proofs::Nums::no_lt))]
+pub fn put_bit(values: u32, var: u32, yes: bool) -> u32
+    requires { var < 32 }
+    ensures { Puts values var yes result }
+{
+    if yes {
+        values | (1 << var)
+    } else {
+        values & !(1 << var)
+    }
+}
+
 // The values with variable `var` yes.
 pub fn set_bit(values: u32, var: u32) -> u32
     requires { var < 32 }
     ensures { Puts values var true result }
 {
-    values | (1 << var)
+    put_bit(values, var, true)
 }
 
 // The values with variable `var` no.
@@ -16,10 +29,11 @@ pub fn clear_bit(values: u32, var: u32) -> u32
     requires { var < 32 }
     ensures { Puts values var false result }
 {
-    values & !(1 << var)
+    put_bit(values, var, false)
 }
 
 // Whether variable `var` is yes.
+#[tactic(auto, using(crate::proofs::Nums::bit_is))]
 pub fn test_bit(values: u32, var: u32) -> bool
     requires { var < 32 }
     ensures { Tests values var result }

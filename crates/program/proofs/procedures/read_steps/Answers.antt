@@ -1,12 +1,7 @@
-use Rattle.std.proofs.Common.{◌+◌, ◌-◌, Ok, Err, arith}
+use Rattle.std.proofs.Common.{◌-◌, Ok, Err, arith}
 use Rattle.std.proofs.lemmas.Result.{err_from_is_err_and}
-use Rattle.program.proofs.ReadingProc.{steps_done, no_steps, steps_more}
+use Rattle.program.proofs.ReadingProc.{steps_done, no_steps}
 use Rattle.program.proofs.procedures.read_steps.Goals as goal
-
-pub loop-i-preserved : goal.loop-i-preserved
-loop-i-preserved c =
-    let p = c.in_ok-found.ensures in
-    (p.0.stands.within, λ r q. c.loop-i.invariant.1 r (steps_more _ _ (c.args.count - c.loop-i._i) (c.args.count - (c.loop-i._i + 1)) _ _ r (omega arith) p q))
 
 pub returns-in_err-found : goal.returns-in_err-found
 returns-in_err-found c =

@@ -1,8 +1,8 @@
-use Rattle.std.proofs.Common.{◌≡◌, ◌+◌, ◌-◌, Ok, Err, subst, arith}
+use Rattle.std.proofs.Common.{◌≡◌, ◌-◌, Ok, Err, subst, arith}
 use Rattle.std.proofs.lemmas.Result.{err_from_is_err_and}
 use Rattle.program.specs.Reading.{NoProcs}
 use Rattle.program.specs.declared.refusals.Reason.TheVariants.{TooManyProcedures}
-use Rattle.program.proofs.ReadingProgram.{procs_done, no_room, no_proc, procs_more}
+use Rattle.program.proofs.ReadingProgram.{procs_done, no_room, no_proc}
 use Rattle.program.proofs.programs.read_procedures.Goals as goal
 
 pub returns-then-tally-eq-MOST_PROCEDURES : goal.returns-then-tally-eq-MOST_PROCEDURES
@@ -14,16 +14,6 @@ pub returns-in_err-found : goal.returns-in_err-found
 returns-in_err-found c =
     let p = err_from_is_err_and c.from_residual.result c.from_residual.ensures.1 in
     rw p.1 (c.loop-end.invariant.rest (Err p.0) (no_proc _ _ _ _ c.loop-end-test.true _ c.in_err-found.ensures))
-
-pub loop-end-preserved : goal.loop-end-preserved
-loop-end-preserved c =
-    let p = c.in_ok-found.ensures in
-    record {
-      some = p.0.stands.within;
-      few = omega arith;
-      small = omega (arith, c.table_size-size.ensures.small);
-      rest = λ r q. c.loop-end.invariant.rest r (procs_more _ _ _ _ c.loop-end-test.true _ (64 - (c.loop-end.tally.count + 1)) _ _ _ r (omega arith) p c.table_size-size.ensures.is q);
-    }
 
 pub returns : goal.returns
 returns c = c.loop-end.invariant.rest (Ok _) (procs_done _ _ _ _ _ _ c.loop-end-test.false)
