@@ -1,19 +1,8 @@
 -- Lists of call places grow: what is listed stays.
-use Rattle.std.proofs.Common.{◌≡◌, ℕ, ◌+◌, ◌<◌, ◌⊎◌, List, length, set, sym, refl, ◌∙◌, subst, inl, inr, arith}
-use Rattle.std.proofs.lemmas.List.{get_or-set_same, get_or-set_other}
+use Rattle.std.proofs.Common.{ℕ, ◌⊎◌, List, sym, ◌∙◌, subst, inl, inr, arith}
 use Rattle.std.proofs.lemmas.Bool.{cases_lt}
-use Rattle.expansion.specs.Listing.{Listed}
-
-pub listed_none : {P : ℕ → Type 0} (w : List ℕ) (k : ℕ) → ((n : ℕ) → P n → ⊥) → Listed P w w k k
-listed_none w k never = record { kept = λ s l. refl; up = omega arith; each = λ s l h. absurd (omega arith); all = λ n h. absurd (never n h) }
-
-pub listed_one : (w : List ℕ) (k v : ℕ) → k < length w → Listed (λ m. m ≡ v) w (set w k v) k (k + 1)
-listed_one w k v h = record {
-  kept = λ s l. get_or-set_other w k s v 0 (omega arith);
-  up = omega arith;
-  each = λ s l m. let e : s ≡ k = omega arith in rw e (get_or-set_same w k v 0 h);
-  all = λ n e. (k, omega arith, omega arith, get_or-set_same w k v 0 h ∙ sym e);
-}
+use Rattle.expansion.specs.declared.sites.Sites.{Sites}
+use Rattle.expansion.specs.Listing.{Listed, Adds}
 
 pub listed_add : {P Q R : ℕ → Type 0} {w w1 w2 : List ℕ} {k k1 k2 : ℕ} → Listed P w w1 k k1 → Listed Q w1 w2 k1 k2 → ((n : ℕ) → P n → R n) → ((n : ℕ) → Q n → R n) → ((n : ℕ) → R n → P n ⊎ Q n) → Listed R w w2 k k2
 listed_add {P} {Q} {R} {w} {w1} {w2} {k} {k1} {k2} a b f h back = record {
@@ -28,3 +17,10 @@ listed_add {P} {Q} {R} {w} {w1} {w2} {k} {k1} {k2} a b f h back = record {
 
 pub listed_same : {P R : ℕ → Type 0} {w w1 : List ℕ} {k k1 : ℕ} → Listed P w w1 k k1 → ((n : ℕ) → P n → R n) → ((n : ℕ) → R n → P n) → Listed R w w1 k k1
 listed_same a f back = record { kept = a.kept; up = a.up; each = λ s l m. f _ (a.each s l m); all = λ n r. a.all n (back n r) }
+
+-- the same of the words that the list is in
+pub adds_add : {P Q R : ℕ → Type 0} {x y z : Sites} → Adds P x y → Adds Q y z → ((n : ℕ) → P n → R n) → ((n : ℕ) → Q n → R n) → ((n : ℕ) → R n → P n ⊎ Q n) → Adds R x z
+adds_add a b f h back = record { same = b.same ∙ a.same; long = b.long ∙ a.long; found = listed_add a.found b.found f h back }
+
+pub adds_same : {P R : ℕ → Type 0} {x y : Sites} → Adds P x y → ((n : ℕ) → P n → R n) → ((n : ℕ) → R n → P n) → Adds R x y
+adds_same a f back = record { same = a.same; long = a.long; found = listed_same a.found f back }

@@ -8,8 +8,10 @@ use Rattle.program.specs.Numbers.{Loc, loc, move_at}
 use Rattle.program.specs.Table.{total}
 use Rattle.program.proofs.Numbered.{loc_inj}
 use Rattle.program.proofs.Targets.{loc_lt}
+use Rattle.expansion.specs.declared.nodes.Callers.{Callers}
 use Rattle.expansion.specs.declared.nodes.Node.{Node}
 use Rattle.expansion.specs.declared.nodes.Place.{Place}
+use Rattle.expansion.specs.declared.source.Source.{Source}
 use Rattle.expansion.specs.Words.{Holds, Wrote, Codes, Upto}
 use Rattle.expansion.specs.Nodes.{PlaceIs, NodeIs, PlaceDone}
 
@@ -29,7 +31,7 @@ upto_more {g} starts {w} {w'} {n} {f} {p} {a} {v} {d} at r c u m f1 p1 a1 v1 l h
   | inr k ↦ (let x = u m f1 p1 a1 v1 (omega arith) h in (x.0, holds_on (omega arith) r x.1, x.2))
 ]
 
-module _ {s bases : List ℕ} {d : Option Step} {q : Place} {g : Prog} {f : ℕ} {p : Proc} {a : ℕ} (h : PlaceIs s bases d q g f p a) (v : ℕ) (l : v < q.width) where
+module _ {src : Source} {d : Option Step} {q : Place} {g : Prog} {f : ℕ} {p : Proc} {a : ℕ} (h : PlaceIs src d q g f p a) (v : ℕ) (l : v < q.width) where
   pub value_small : v < 2 ^ (g.shared + p.own)
   value_small = omega (arith, h.width)
 
@@ -40,15 +42,15 @@ module _ {s bases : List ℕ} {d : Option Step} {q : Place} {g : Prog} {f : ℕ}
   node_lt = loc_lt place_loc
 
 -- one node more of a place
-pub place_more : (s bases : List ℕ) (d : Option Step) (q : Place) (w w1 w2 : List ℕ) (v : ℕ) (r : Node) → v < q.width → NodeIs s bases d q v r → Wrote w1 w2 (q.first + v) r → PlaceDone s bases d q w w1 v → PlaceDone s bases d q w w2 (v + 1)
-place_more s bases d q w w1 w2 v r l is wrote done g f p a h starts lo hi u =
+pub place_more : (src : Source) (d : Option Step) (q : Place) (k : Callers) (w w1 w2 : List ℕ) (v : ℕ) (r : Node) → v < q.width → NodeIs src d q k v r → Wrote w1 w2 (q.first + v) r → PlaceDone src d q k w w1 v → PlaceDone src d q k w w2 (v + 1)
+place_more src d q k w w1 w2 v r l is wrote done g f p a h starts lo hi u =
     let at = place_loc h v l in
     let c = is g f p a h (value_small h v l) in
     let here : Upto g starts w1 (q.first + v) = subst (Upto g starts w1) (sym at.is) (done g f p a h starts lo hi u) in
     let B = before g.shared g.procs f in
     let M = move_at g f p a v (nth p.steps a) in
-    let c1 = subst (λ b. Codes (2 ^ g.shared) (loc g f p a v) b q.sites q.until r M) h.base c in
-    let c2 = subst (λ z. Codes (2 ^ g.shared) (loc g f p a v) B z q.until r M) (sym lo) c1 in
+    let c1 = subst (λ b. Codes (2 ^ g.shared) (loc g f p a v) b k.from k.until r M) h.base c in
+    let c2 = subst (λ z. Codes (2 ^ g.shared) (loc g f p a v) B z k.until r M) (sym lo) c1 in
     let c3 = subst (λ z. Codes (2 ^ g.shared) (loc g f p a v) B (get_or starts f 0) z r M) (sym hi) c2 in
     let words = upto_more starts at wrote (subst (λ z. Codes (2 ^ g.shared) z B (get_or starts f 0) (get_or starts (f + 1) 0) r M) (sym at.is) c3) here in
     let next : q.first + v + 1 ≡ loc g f p a (v + 1) = omega (arith, h.first) in

@@ -2,15 +2,17 @@
 use Rattle.std.specs.Prelude.{◌≡◌, ℕ, zero, suc, ◌+◌, ◌<◌, ◌≤◌, ◌⊎◌, List, [], ◌∷◌, length, slice_index}
 use Rattle.std.proofs.Math.Option.{some}
 use Rattle.program.specs.declared.programs.Header.{Header}
-use Rattle.program.specs.declared.steps.Scope.{Scope}
+use Rattle.program.specs.declared.procedures.Procedure.{Procedure}
 use Rattle.program.specs.declared.steps.Step.{Step}
 use Rattle.program.specs.declared.steps.Step.TheVariants.{Call}
 use Rattle.program.specs.declared.steps.ProcNo.{ProcNo}
 use Rattle.program.specs.Program.{nth, I, set, open1, go, call, return, Proc, Prog}
 use Rattle.program.specs.Numbers.{loc}
 use Rattle.expansion.specs.declared.nodes.Place.{Place}
+use Rattle.expansion.specs.declared.sites.Sites.{Sites}
+use Rattle.expansion.specs.declared.source.Source.{Source}
 use Rattle.expansion.specs.Procs.{ProcIs}
-use Rattle.expansion.specs.Programs.{Headed, Begin}
+use Rattle.expansion.specs.Programs.{Headed, Known}
 use Rattle.expansion.specs.Sites.{SitesAre}
 
 -- 1 if two numbers are the same, else 0
@@ -45,6 +47,12 @@ pub record Listed (P : ℕ → Type 0) (w w' : List ℕ) (k k' : ℕ) : Type 0 w
   pub each : (s : ℕ) → k ≤ s → s < k' → P (slice_index w' s)
   pub all : (n : ℕ) → P n → (s : ℕ) × (k ≤ s) × (s < k') × (slice_index w' s ≡ n)
 
+-- behind the nodes that were listed, exactly those that P is true of were, in the same words
+pub record Adds (P : ℕ → Type 0) (x y : Sites) : Type 0 where
+  pub same : y.words.ghost_name ≡ x.words.ghost_name
+  pub long : length y.words.now ≡ length x.words.now
+  pub found : Listed P x.words.now y.words.now x.count y.count
+
 -- n is the first node of a place below c, in procedure f, which is p, that calls procedure e
 pub record StepCalls (g : Prog) (e f : ℕ) (p : Proc) (c n : ℕ) : Type 0 where
   pub a : ℕ
@@ -67,29 +75,24 @@ abbrev pub IsCall : Step → ℕ → Type 0
 IsCall step e = (d : ProcNo) × (step ≡ Call d) × (d.0 ≡ e)
 
 -- a step was noted: number n, if the step calls procedure e
-abbrev pub Noted : Step → ℕ → ℕ → List ℕ → List ℕ → ℕ → ℕ → Type 0
-Noted step e n w w' k k' = (IsCall step e × (k' ≡ k + 1) × Listed (λ m. m ≡ n) w w' k k') ⊎ ((IsCall step e → ⊥) × (w' ≡ w) × (k' ≡ k))
+abbrev pub Noted : Step → ℕ → ℕ → Sites → Sites → Type 0
+Noted step e n x y = (IsCall step e × Adds (λ m. m ≡ n) x y × (y.count ≡ x.count + 1)) ⊎ ((IsCall step e → ⊥) × (y ≡ x))
 
 -- the calls of procedure e in a procedure are listed
-pub record InProcedure (g : Prog) (e f : ℕ) (p : Proc) (w w' : List ℕ) (k k' : ℕ) : Type 0 where
-  pub few : k' ≤ k + calls_in e p.steps
-  pub found : Listed (StepCalls g e f p (length p.steps)) w w' k k'
+pub record InProcedure (g : Prog) (e f : ℕ) (p : Proc) (x y : Sites) : Type 0 where
+  pub few : y.count ≤ x.count + calls_in e p.steps
+  pub adds : Adds (StepCalls g e f p (length p.steps)) x y
 
-abbrev pub ProcListed : List ℕ → ℕ → ℕ → Scope → Place → ℕ → List ℕ → List ℕ → ℕ → ℕ → Type 0
-ProcListed s n at c q e w w' k k' = (b : List ℕ) (g : Prog) (f : ℕ) (p : Proc) → ProcIs s b n at c q g f p → InProcedure g e f p w w' k k'
+abbrev pub ProcListed : Source → Procedure → Place → ℕ → Sites → Sites → Type 0
+ProcListed src d q e x y = (g : Prog) (f : ℕ) (p : Proc) → ProcIs src d q g f p → InProcedure g e f p x y
 
 -- the calls of procedure e in all procedures are listed
-pub record InProgram (g : Prog) (e : ℕ) (w w' : List ℕ) (k k' : ℕ) : Type 0 where
-  pub few : k' ≤ k + calls_of e g.procs
-  pub found : Listed (ProcCalls g e (length g.procs)) w w' k k'
+pub record InProgram (g : Prog) (e : ℕ) (x y : Sites) : Type 0 where
+  pub few : y.count ≤ x.count + calls_of e g.procs
+  pub adds : Adds (ProcCalls g e (length g.procs)) x y
 
--- the bytes are g, and its procedures begin where the list says
-pub record Known (s : List ℕ) (h : Header) (b : List ℕ) (g : Prog) : Type 0 where
-  pub headed : Headed s h g
-  pub begins : Begin b g (length g.procs)
-
-abbrev pub CalleeListed : List ℕ → Header → List ℕ → ℕ → List ℕ → List ℕ → ℕ → ℕ → Type 0
-CalleeListed s h b e w w' k k' = (g : Prog) → Known s h b g → InProgram g e w w' k k'
+abbrev pub CalleeListed : Source → ℕ → Sites → Sites → Type 0
+CalleeListed src e x y = (g : Prog) → Known src g → InProgram g e x y
 
 -- the calls of all procedures are listed
 abbrev pub SitesListed : List ℕ → Header → List ℕ → List ℕ → ℕ → Type 0

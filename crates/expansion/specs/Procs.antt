@@ -1,13 +1,17 @@
 -- A procedure, as the expansion has it at hand.
 use Rattle.std.specs.Prelude.{◌≡◌, ℕ, ◌+◌, ◌^◌, ◌<◌, ◌≤◌, List, ◌++◌, length, drop, slice_index}
 use Rattle.std.proofs.Math.Option.{some}
-use Rattle.program.specs.declared.steps.Scope.{Scope}
+use Rattle.program.specs.declared.procedures.Procedure.{Procedure}
+use Rattle.program.specs.declared.walks.Steps.{Steps}
 use Rattle.program.specs.Program.{nth, Proc, Prog}
 use Rattle.program.specs.Rows.{rows, row_i}
 use Rattle.program.specs.Table.{before, size, total}
 use Rattle.program.specs.Numbers.{loc}
+use Rattle.program.specs.Walks.{AtStep}
 use Rattle.program.specs.WellFormed.{Good}
+use Rattle.expansion.specs.declared.nodes.Callers.{Callers}
 use Rattle.expansion.specs.declared.nodes.Place.{Place}
+use Rattle.expansion.specs.declared.source.Source.{Source}
 use Rattle.expansion.specs.Words.{Upto}
 
 -- the steps of p from place a on stand in the bytes at `at`
@@ -21,21 +25,33 @@ pub record PlaceAt (q : Place) (g : Prog) (f : ℕ) (p : Proc) (a : ℕ) : Type 
   pub shared : q.shared ≡ 2 ^ g.shared
   pub first : q.first ≡ loc g f p a 0
 
--- procedure f, which is p, has n steps, from byte `at` on, and this scope, and begins at place q
-pub record ProcIs (s bases : List ℕ) (n at : ℕ) (c : Scope) (q : Place) (g : Prog) (f : ℕ) (p : Proc) : Type 0 where
+-- t has passed a steps of the procedure that was read as d, and their scope is its
+pub record StepsAt (x : Source) (d : Procedure) (a : ℕ) (t : Steps) : Type 0 where
+  pub walk : AtStep x.bytes.now t.scope d.steps a t.at t
+  pub vars : t.scope.vars ≡ x.header.shared + d.own
+  pub last : t.scope.last.0 ≡ d.steps
+  pub procs : t.scope.procs ≡ x.header.procs
+
+-- t is at the first step of the procedure that was read as d
+pub record StepsOf (x : Source) (d : Procedure) (t : Steps) : Type 0 where
+  pub all : StepsAt x d 0 t
+  pub first : t.at ≡ d.first
+
+-- procedure f, which is p, was read as d, and begins at place q
+pub record ProcIs (x : Source) (d : Procedure) (q : Place) (g : Prog) (f : ℕ) (p : Proc) : Type 0 where
   pub good : Good g
   pub few : g.shared ≤ 6
   pub small : total g.shared g.procs ≤ 67108864
   pub there : nth g.procs f ≡ some p
-  pub steps : n ≡ length p.steps
-  pub from : StepsFrom s p 0 at
-  pub vars : c.vars ≡ g.shared + p.own
-  pub last : c.last.0 ≡ length p.steps
-  pub procs : c.procs ≡ length g.procs
+  pub own : d.own ≡ p.own
+  pub steps : d.steps ≡ length p.steps
+  pub from : StepsFrom x.bytes.now p 0 d.first
+  pub shared : x.header.shared ≡ g.shared
+  pub procs : x.header.procs ≡ length g.procs
   pub place : PlaceAt q g f p 0
-  pub begins : (e : ℕ) → e < length g.procs → (e < length bases) × (slice_index bases e ≡ before g.shared g.procs e)
+  pub begins : (e : ℕ) → e < length g.procs → (e < length x.bases.now) × (slice_index x.bases.now e ≡ before g.shared g.procs e)
 
 -- its nodes were written, behind all nodes before it
-abbrev pub ProcDone : List ℕ → List ℕ → ℕ → ℕ → Scope → Place → List ℕ → List ℕ → Type 0
-ProcDone s bases n at c q w w' = (g : Prog) (f : ℕ) (p : Proc) → ProcIs s bases n at c q g f p → (starts : List ℕ) → slice_index starts f ≡ q.sites → slice_index starts (f + 1) ≡ q.until →
+abbrev pub ProcDone : Source → Procedure → Place → Callers → List ℕ → List ℕ → Type 0
+ProcDone x d q r w w' = (g : Prog) (f : ℕ) (p : Proc) → ProcIs x d q g f p → (starts : List ℕ) → slice_index starts f ≡ r.from → slice_index starts (f + 1) ≡ r.until →
     Upto g starts w (before g.shared g.procs f) → Upto g starts w' (before g.shared g.procs f + size g.shared p)

@@ -5,6 +5,7 @@ use Rattle.program.specs.Program.{Prog}
 use Rattle.program.specs.Rows.{Reads}
 use Rattle.program.specs.Reading.{HeaderOf}
 use Rattle.program.specs.Table.{before, total}
+use Rattle.expansion.specs.declared.source.Source.{Source}
 use Rattle.expansion.specs.Words.{Upto}
 
 -- the bytes are g, and this is its header
@@ -15,6 +16,11 @@ pub record Headed (s : List ℕ) (h : Header) (g : Prog) : Type 0 where
 -- the first c procedures begin where the list says
 abbrev pub Begin : List ℕ → Prog → ℕ → Type 0
 Begin bases g c = (e : ℕ) → e < c → (e < length bases) × (slice_index bases e ≡ before g.shared g.procs e)
+
+-- the bytes are g, and its procedures begin where the list says
+pub record Known (x : Source) (g : Prog) : Type 0 where
+  pub headed : Headed x.bytes.now x.header g
+  pub begins : Begin x.bases.now g (length g.procs)
 
 -- where all procedures begin
 abbrev pub Based : List ℕ → Header → List ℕ → Type 0

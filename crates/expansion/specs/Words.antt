@@ -4,13 +4,31 @@ use Rattle.std.specs.Prelude.{◌≡◌, ℕ, ◌+◌, ◌*◌, ◌%◌, ◌^◌
 use Rattle.program.specs.Program.{nth, Proc, Prog}
 use Rattle.program.specs.Table.{before}
 use Rattle.program.specs.Numbers.{Move, on, down, up, Loc, move_at}
+use Rattle.expansion.specs.declared.nodes.Action.{Action}
+use Rattle.expansion.specs.declared.nodes.Action.TheVariants.{Flow, Call, Return}
 use Rattle.expansion.specs.declared.nodes.Node.{Node}
+
+-- the first word, which tells the kinds of moves apart, and the two numbers that go with it
+abbrev pub kind_of : Action → ℕ
+kind_of (Flow x y) = 0
+kind_of (Call c r) = 1
+kind_of (Return s) = 2
+
+abbrev pub first_of : Action → ℕ
+first_of (Flow x y) = x
+first_of (Call c r) = c
+first_of (Return s) = s.from
+
+abbrev pub second_of : Action → ℕ
+second_of (Flow x y) = y
+second_of (Call c r) = r
+second_of (Return s) = s.until
 
 -- the words of node n
 pub record Holds (w : List ℕ) (n : ℕ) (d : Node) : Type 0 where
-  pub kind : slice_index_or w (4 * n) 0 ≡ d.kind
-  pub first : slice_index_or w (4 * n + 1) 0 ≡ d.first
-  pub second : slice_index_or w (4 * n + 2) 0 ≡ d.second
+  pub kind : slice_index_or w (4 * n) 0 ≡ kind_of d.action
+  pub first : slice_index_or w (4 * n + 1) 0 ≡ first_of d.action
+  pub second : slice_index_or w (4 * n + 2) 0 ≡ second_of d.action
   pub base : slice_index_or w (4 * n + 3) 0 ≡ d.base
 
 -- they were written, and those of nodes before n are as they were
@@ -18,13 +36,13 @@ pub record Wrote (w w' : List ℕ) (n : ℕ) (d : Node) : Type 0 where
   pub holds : Holds w' n d
   pub others : (i : ℕ) → i < 4 * n → slice_index w' i ≡ slice_index w i
 
--- the words that a move of node n has, with K shared values, in a procedure that begins at base and
--- whose call places are those from lo to hi: 0, on to one of two nodes; 1, a call of the procedure that
--- begins at c, and what waits; 2, a return
+-- what is written for a move of node n, with K shared values, in a procedure that begins at base and
+-- whose call places are those from lo to hi: on to one of two nodes; a call of the procedure that begins
+-- at c, and what waits; a return
 abbrev pub Codes : ℕ → ℕ → ℕ → ℕ → ℕ → Node → Move → Type 0
-Codes K n base lo hi d (on x y) = d ≡ record { kind = 0; first = x; second = y; base = base }
-Codes K n base lo hi d (down m r) = (c : ℕ) × (d ≡ record { kind = 1; first = c; second = r; base = base }) × (m ≡ c + n % K)
-Codes K n base lo hi d up = d ≡ record { kind = 2; first = lo; second = hi; base = base }
+Codes K n base lo hi d (on x y) = d ≡ record { action = Flow x y; base = base }
+Codes K n base lo hi d (down m r) = (c : ℕ) × (d ≡ record { action = Call c r; base = base }) × (m ≡ c + n % K)
+Codes K n base lo hi d up = d ≡ record { action = Return (record { from = lo; until = hi }); base = base }
 
 -- all nodes below N have their words; call place numbers of procedure f are those from s f to s (f + 1)
 abbrev pub Upto : Prog → List ℕ → List ℕ → ℕ → Type 0

@@ -8,3 +8,4 @@ pub mod places;
 pub mod procedures;
 pub mod programs;
 pub mod sites;
+pub mod source;

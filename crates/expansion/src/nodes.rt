@@ -1,132 +1,143 @@
-// The words of one node.
-ghost use Rattle.std.specs.Prelude.{ℕ, ◌+◌, ◌*◌, ◌^◌, ◌<◌, length};
+// The words of one node, in lent memory: four for each.
+ghost use Rattle.std.specs.Prelude.{◌≡◌, ℕ, ◌+◌, ◌*◌, ◌^◌, ◌<◌, length};
 ghost use Rattle.program.specs.Program.{Prog, Proc};
-ghost use Rattle.program.specs.Values.{Puts};
 ghost use Rattle.expansion.specs.Words.{Wrote};
 ghost use Rattle.expansion.specs.Nodes.{PlaceIs, NodeIs};
 
+use crate::source::Source;
 use program::expressions::evaluate;
 use program::steps::Step;
-use program::values::{clear_bit, set_bit};
+use program::values::put_bit;
 
-// What is written for a node: 0, on to `first` or to `second`; 1, a call of the procedure that begins at
-// `first`, while `second` waits; 2, a return of a procedure whose call places are `first` to `second`.
-// Its own procedure begins at `base`.
+// The call places of a procedure, by their numbers: those at `from` and on, before `until`.
+#[derive(Clone, Copy)]
+pub struct Callers {
+    pub from: u32,
+    pub until: u32,
+}
+
+// What a node does: it flows on to one of two nodes; it calls the procedure that begins at a node, while
+// another waits; or it returns to where its procedure was called.
+#[derive(Clone, Copy)]
+pub enum Action {
+    Flow { first: u32, second: u32 },
+    Call { callee: u32, waiting: u32 },
+    Return(Callers),
+}
+
+impl Action {
+    // On to one node.
+    fn flow_to(node: u32) -> Action
+        ensures { result ≡ Action.Flow node node }
+    {
+        Action::Flow {
+            first: node,
+            second: node,
+        }
+    }
+}
+
+// A node, whose procedure begins at `base`.
 #[derive(Clone, Copy)]
 pub struct Node {
-    pub kind: u32,
-    pub first: u32,
-    pub second: u32,
+    pub action: Action,
     pub base: u32,
 }
 
 // A place of a procedure: the node where the procedure begins and the first node of the place, how many
-// nodes a place has, how many shared values there are, and the procedure's call places.
+// nodes a place has, and how many shared values there are.
 #[derive(Clone, Copy)]
 pub struct Place {
     pub base: u32,
     pub first: u32,
     pub width: u32,
     pub shared: u32,
-    pub sites: u32,
-    pub until: u32,
 }
 
-// Writes the words of node `n`.
+// A procedure that is written: its program, and its call places.
+#[derive(Clone, Copy)]
+pub struct Body<'b> {
+    pub source: Source<'b>,
+    pub callers: Callers,
+}
+
+impl Place {
+    // The place after this one.
+    pub fn next(self) -> Place
+        requires { self.first + self.width < 2 ^ 32 }
+        ensures { result ≡ record self { first = self.first + self.width } }
+    {
+        Place {
+            first: self.first + self.width,
+            ..self
+        }
+    }
+}
+
+// Writes the words of node `n`: a number that tells its kind of action, two that go with it, and where its
+// procedure begins.
 pub fn write_node(words: &mut [u32], n: usize, node: Node)
     requires { 4 * n + 3 < length words.old }
     ensures { Wrote words.old words.new n node }
 {
-    words[4 * n] = node.kind;
-    words[4 * n + 1] = node.first;
-    words[4 * n + 2] = node.second;
+    let (kind, first, second) = match node.action {
+        Action::Flow { first, second } => (0, first, second),
+        Action::Call { callee, waiting } => (1, callee, waiting),
+        Action::Return(callers) => (2, callers.from, callers.until),
+    };
+    words[4 * n] = kind;
+    words[4 * n + 1] = first;
+    words[4 * n + 2] = second;
     words[4 * n + 3] = node.base;
 }
 
-// The values with variable `var` become yes or no.
-fn assign(values: u32, var: u32, yes: bool) -> u32
-    requires { var < 32 }
-    ensures { Puts values var yes result }
+// What the node of `place` with these values does, where `step` stands, or none behind the last step.
+fn action_of(body: Body, step: Option<Step>, place: Place, values: u32) -> Action
+    requires { (g : Prog) × (f : ℕ) × (p : Proc) × (a : ℕ) × PlaceIs body.source step place g f p a × (values < 2 ^ (g.shared + p.own)) }
+    ensures { NodeIs body.entry.source step place body.entry.callers values (record { action = result; base = place.base }) }
 {
-    if yes {
-        set_bit(values, var)
-    } else {
-        clear_bit(values, var)
-    }
-}
-
-// The words of the node of `place` with these values, where `step` stands, or none behind the last step.
-pub fn node_words(
-    bytes: &[u8],
-    step: Option<Step>,
-    place: Place,
-    bases: &[u32],
-    values: u32,
-) -> Node
-    requires { (g : Prog) × (f : ℕ) × (p : Proc) × (a : ℕ) × PlaceIs bytes.now bases.now step place g f p a × (values < 2 ^ (g.shared + p.own)) }
-    ensures { NodeIs bytes.now bases.now step place values result }
-{
-    let base = place.base;
     let Some(found) = step else {
-        return Node {
-            kind: 2,
-            first: place.sites,
-            second: place.until,
-            base,
-        };
+        return Action::Return(body.callers);
     };
     let next = place.first + place.width;
     match found {
         Step::Set { var, expr } => {
-            let to = next + assign(values, var.0 as u32, evaluate(bytes, expr.0, values).holds);
-            Node {
-                kind: 0,
-                first: to,
-                second: to,
-                base,
-            }
+            let yes = evaluate(body.source.bytes, expr.0, values).holds;
+            Action::flow_to(next + put_bit(values, u32::from(var.0), yes))
         }
-        Step::Open(var) => {
-            let yes = next + set_bit(values, var.0 as u32);
-            let no = next + clear_bit(values, var.0 as u32);
-            Node {
-                kind: 0,
-                first: yes,
-                second: no,
-                base,
-            }
-        }
+        Step::Open(var) => Action::Flow {
+            first: next + put_bit(values, u32::from(var.0), true),
+            second: next + put_bit(values, u32::from(var.0), false),
+        },
         Step::Go {
             place: target,
             expr,
         } => {
-            let there = base + target.0 as u32 * place.width;
-            let to = if evaluate(bytes, expr.0, values).holds {
-                there + values
+            let there = place.base + u32::from(target.0) * place.width;
+            if evaluate(body.source.bytes, expr.0, values).holds {
+                Action::flow_to(there + values)
             } else {
-                next + values
-            };
-            Node {
-                kind: 0,
-                first: to,
-                second: to,
-                base,
+                Action::flow_to(next + values)
             }
         }
         Step::Call(callee) => {
             let waiting = next + (values - values % place.shared);
-            Node {
-                kind: 1,
-                first: bases[callee.0 as usize],
-                second: waiting,
-                base,
+            Action::Call {
+                callee: body.source.bases[usize::from(callee.0)],
+                waiting,
             }
         }
-        Step::Return => Node {
-            kind: 2,
-            first: place.sites,
-            second: place.until,
-            base,
-        },
+        Step::Return => Action::Return(body.callers),
+    }
+}
+
+// The node of `place` with these values, where `step` stands, or none behind the last step.
+pub fn node_words(body: Body, step: Option<Step>, place: Place, values: u32) -> Node
+    requires { (g : Prog) × (f : ℕ) × (p : Proc) × (a : ℕ) × PlaceIs body.source step place g f p a × (values < 2 ^ (g.shared + p.own)) }
+    ensures { NodeIs body.entry.source step place body.entry.callers values result }
+{
+    Node {
+        action: action_of(body, step, place, values),
+        base: place.base,
     }
 }

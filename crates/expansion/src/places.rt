@@ -1,25 +1,20 @@
-// The words of all nodes of a place.
+// The words of all nodes of a place. A node's number is cast by `as`, since std has no `From` of a u32 for usize.
 ghost use Rattle.std.specs.Prelude.{ℕ, ◌+◌, ◌*◌, ◌≤◌, length};
 ghost use Rattle.program.specs.Program.{Prog, Proc};
 ghost use Rattle.program.specs.Table.{total};
 ghost use Rattle.expansion.specs.Nodes.{PlaceIs, PlaceDone};
 
-use crate::nodes::{Place, node_words, write_node};
+use crate::nodes::{Body, Place, node_words, write_node};
 use program::steps::Step;
 
 // Writes the nodes of `place`, in the order of their values.
-pub fn expand_place(
-    bytes: &[u8],
-    step: Option<Step>,
-    place: Place,
-    bases: &[u32],
-    words: &mut [u32],
-)
-    requires { (g : Prog) × (f : ℕ) × (p : Proc) × (a : ℕ) × PlaceIs bytes.now bases.now step place g f p a × (4 * total g.shared g.procs ≤ length words.old) }
-    ensures { PlaceDone bytes.now bases.now step place words.old words.new place.width }
+pub fn expand_place(body: Body, step: Option<Step>, place: Place, words: &mut [u32])
+    requires { (g : Prog) × (f : ℕ) × (p : Proc) × (a : ℕ) × PlaceIs body.source step place g f p a × (4 * total g.shared g.procs ≤ length words.old) }
+    ensures { PlaceDone body.entry.source step place body.entry.callers words.old words.new place.width }
 {
+    // the values are what is counted: bit x of their number is variable x
     for values in 0..place.width {
-        let node = node_words(bytes, step, place, bases, values);
+        let node = node_words(body, step, place, values);
         write_node(words, (place.first + values) as usize, node);
     }
 }

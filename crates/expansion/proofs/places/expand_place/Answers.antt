@@ -1,10 +1,7 @@
 use Rattle.std.proofs.Common.{◌≡◌, subst, arith}
 use Rattle.expansion.specs.Nodes.{PlaceDone}
-use Rattle.expansion.proofs.Written.{value_small, node_lt, place_more}
+use Rattle.expansion.proofs.Written.{node_lt, place_more}
 use Rattle.expansion.proofs.places.expand_place.Goals as goal
-
-pub node_words-node-requires : goal.node_words-node-requires
-node_words-node-requires c = let h = c.requires in (h.0, h.1, h.2, h.3, h.4, value_small h.4 _ c.loop-values-test.true)
 
 pub overflow_add-place : goal.overflow_add-place
 overflow_add-place c = let h = c.requires in omega (arith, node_lt h.4 _ c.loop-values-test.true, h.4.small)
@@ -18,4 +15,4 @@ loop-values-preserved c = place_more _ _ _ _ _ _ _ _ _ c.loop-values-test.true c
 pub returns : goal.returns
 returns c =
     let e : c.loop-values.values ≡ c.args.place.width = omega arith in
-    subst (PlaceDone c.args.bytes.now c.args.bases.now c.args.step c.args.place c.args.words.now c.loop-values.words) e c.loop-values.invariant
+    subst (PlaceDone c.args.body.source c.args.step c.args.place c.args.body.callers c.args.words.now c.loop-values.words) e c.loop-values.invariant

@@ -1,28 +1,21 @@
-use Rattle.std.proofs.Common.{refl, arith}
-use Rattle.expansion.proofs.Walking.{walk_some}
-use Rattle.expansion.proofs.Whole.{sofar_first, proc_is, sofar_next, sofar_all}
+use Rattle.std.proofs.Common.{arith}
+use Rattle.expansion.proofs.Walking.{walk_first, walk_here, here, proc_is}
+use Rattle.expansion.proofs.Whole.{sofar_first, sofar_next, sofar_all}
 use Rattle.expansion.proofs.programs.expand.Goals as goal
 
 pub loop-f-init : goal.loop-f-init
-loop-f-init c = sofar_first _ _ _ _
-
-pub unreachable-requires : goal.unreachable-requires
-unreachable-requires c = walk_some c.requires.some.1 _ _ (c.loop-f.invariant.rest c.requires.some.0 c.requires.some.1) c.loop-f-test.true c.in_default.ensures
+loop-f-init c =
+    let e = c.enumerate-f-items.ensures in
+    rw c.into_iter-f-iterator.ensures.into_iter_gives (sofar_first _ _ (walk_first _ _ e.source e.count c.new.ensures) e.count)
 
 pub returns : goal.returns
-returns c = sofar_all c.loop-f.invariant (omega arith)
-
-pub bounds-bases-f : goal.bounds-bases-f
-bounds-bases-f c = (c.requires.based c.requires.some.0 c.requires.some.1 c.loop-f.f (omega (arith, c.requires.some.1.header.procs))).0
-
-pub bounds-bases-f-in-loop-f : goal.bounds-bases-f-in-loop-f
-bounds-bases-f-in-loop-f c = (c.requires.based c.requires.some.0 c.requires.some.1 c.loop-f.f (omega (arith, c.requires.some.1.header.procs))).0
+returns c = sofar_all c.loop-f.invariant c.next.new.self c.in-None.ensures.steps
 
 pub expand_procedure-requires : goal.expand_procedure-requires
 expand_procedure-requires c =
-    let h = c.requires.some in
-    (h.0, c.loop-f.f, _, proc_is c.loop-f.invariant c.requires.based c.loop-f-test.true _ c.in-Ok.ensures _ _ (record { vars = refl; last = refl; procs = refl; base = refl; first = refl; width = c.values-width.ensures; shared = c.values-shared.ensures; sites = refl; until = refl }) h.0 h.1, omega (arith, h.3))
+    let h = c.requires in
+    let y = here c.loop-f.invariant.walk c.next.new.self _ _ c.in-Some.ensures.steps h.0 h.1.headed in
+    (h.0, c.in-Some.f, y.p, rw c.first_place-place.ensures (proc_is _ _ _ h.1 (walk_here c.loop-f.invariant.walk c.next.new.self _ _ c.in-Some.ensures.steps) y), omega (arith, h.3))
 
 pub loop-f-preserved : goal.loop-f-preserved
-loop-f-preserved c =
-    sofar_next c.loop-f.invariant c.requires.based c.loop-f-test.true _ c.in-Ok.ensures _ _ (record { vars = refl; last = refl; procs = refl; base = refl; first = refl; width = c.values-width.ensures; shared = c.values-shared.ensures; sites = refl; until = refl }) _ c.expand_procedure.ensures
+loop-f-preserved c = sofar_next {x = c.args.source} c.loop-f.invariant c.next.new.self c.requires.1 _ _ c.in-Some.ensures.steps _ (rw (← c.first_place-place.ensures) c.expand_procedure.ensures)

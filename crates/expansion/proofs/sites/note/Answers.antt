@@ -1,9 +1,0 @@
-use Rattle.std.proofs.Common.{refl, inl, arith}
-use Rattle.expansion.specs.Listing.{IsCall}
-use Rattle.expansion.proofs.Collecting.{listed_one}
-use Rattle.expansion.proofs.sites.note.Goals as goal
-
-pub returns-then-to-callee : goal.returns-then-to-callee
-returns-then-to-callee c =
-    let is : IsCall c.args.step c.args.callee = (c.in-Call.to, c.in-Call.is, omega arith) in
-    inl (is, refl, listed_one _ _ _ (c.requires is))
