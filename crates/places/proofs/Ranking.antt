@@ -67,10 +67,10 @@ module _ {p : Program} {r : Saturated} {g : Prog} (e : Headed p.bytes.now p.head
   pub starts_here : Starts w r.system.shared r.system.nodes root
   starts_here = subst (Starts w r.system.shared r.system.nodes) (sym root_is) (moved (λ a b. Starts w a b 0) (starts_at g r.procedures.starts.now w ok e.reads.few solution.expanded))
 
-  pub grouped_here : Grouped w r.system.shared r.system.nodes r.system.sites.now r.procedures.bases.now r.procedures.starts.now r.procedures.count
+  pub grouped_here : Grouped w r.system.shared r.system.nodes r.system.sites.now r.procedures.bases.now r.procedures.starts.now
   grouped_here =
-      let n : r.procedures.count ≡ length g.procs = x.count ∙ e.header.procs in
-      moved (λ a b. Grouped w a b r.system.sites.now r.procedures.bases.now r.procedures.starts.now r.procedures.count) (grouped g r.procedures.starts.now w ok e.reads.few solution.expanded r.system.sites.now solution.listed r.procedures.bases.now r.procedures.count n (x.based g e) (omega (arith, x.count, x.bases_long)) (omega (arith, x.count, x.starts_long)) (omega (arith, n, e.reads.most)))
+      let n : length r.procedures.bases.now ≡ length g.procs = x.bases_long ∙ e.header.procs in
+      moved (λ a b. Grouped w a b r.system.sites.now r.procedures.bases.now r.procedures.starts.now) (grouped g r.procedures.starts.now w ok e.reads.few solution.expanded r.system.sites.now solution.listed r.procedures.bases.now n (x.based g e) (omega (arith, x.bases_long, x.starts_long)) (omega (arith, n, e.reads.most)))
 
   pub told_here : (front back : List ℕ) → r.sets.now ≡ front ++ back → length front ≡ 2 * r.system.nodes → TellsInside w r.system.shared r.system.nodes root front
   told_here front back q l = inside_front w r.system.shared r.system.nodes root r.sets.now front back q (omega arith) (subst (λ z. TellsInside w r.system.shared r.system.nodes z r.sets.now) (sym root_is) (moved (λ a b. TellsInside w a b 0 r.sets.now) solution.told.inside))

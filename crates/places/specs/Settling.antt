@@ -11,7 +11,6 @@ pub record Filled (p : Program) (r : Saturated) : Type 0 where
   pub settled : Settled p.bytes.now p.header r.procedures.starts.now r.system.graph.now r.system.sites.now (length r.system.sites.now) r.sets.now
   pub shared : r.system.shared ≡ 2 ^ p.header.shared
   pub nodes : r.system.nodes ≡ p.header.table
-  pub count : r.procedures.count ≡ p.header.procs
   pub bases_long : length r.procedures.bases.now ≡ p.header.procs
   pub starts_long : length r.procedures.starts.now ≡ p.header.procs + 1
   pub words_long : length r.system.graph.now ≡ 4 * p.header.table

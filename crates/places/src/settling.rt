@@ -7,7 +7,7 @@ use crate::given::Program;
 use crate::memory::{Memory, divide};
 use expansion::programs::{expand, list_bases};
 use expansion::sites::list_sites;
-use program::procedures::values;
+use expansion::source::Source;
 use program::programs::MOST_PROCEDURES;
 use ranking::Procedures;
 use saturation::{System, saturate};
@@ -50,23 +50,23 @@ pub fn settle<'w>(
         sites,
     } = divide(work, header.table);
     list_bases(bytes, header, bases);
-    let count = list_sites(bytes, header, bases, starts, sites);
-    expand(bytes, header, bases, starts, words);
+    let source = Source {
+        bytes,
+        header,
+        bases,
+    };
+    let listed = list_sites(source, starts, sites);
+    expand(source, starts, words);
     let system = System {
         graph: words,
-        sites: &sites[..count],
-        shared: values(header.shared),
+        sites: listed,
+        shared: header.shared_values(),
         nodes: header.table,
     };
     saturate(system, sets, marks, 0);
-    let procedures = Procedures {
-        bases,
-        starts,
-        count: header.procs,
-    };
     Saturated {
         system,
-        procedures,
+        procedures: Procedures { bases, starts },
         sets,
         level,
         next,

@@ -15,7 +15,7 @@ rank-requires-clause-known c =
     record {
       countable = record { fine = fine_here e x; aligned = aligned_here e x; small = omega (arith, x.nodes, e.header.table, small); sets_long = omega (arith, parts.front_len); counts_long = omega (arith, parts.back_len, x.sets_long, x.nodes) };
       grouped = grouped_here e x;
-      next_long = omega (arith, x.next_long, x.count, e.header.procs, e.reads.most);
+      next_long = omega (arith, x.next_long, x.bases_long, e.header.procs, e.reads.most);
     }
 
 pub rank-requires-clause-short : goal.rank-requires-clause-short

@@ -1,8 +1,7 @@
-use Rattle.std.proofs.Common.{sym, refl, arith, length-take}
-use Rattle.program.proofs.Kept.{good}
+use Rattle.std.proofs.Common.{refl, arith}
 use Rattle.places.proofs.Reading.{read_one}
 use Rattle.places.proofs.Telling.{wanted, nodes_small}
-use Rattle.places.proofs.Solved.{sites_cut, fine_at, sited_at, starts_root, settled_by, solved_by}
+use Rattle.places.proofs.Solved.{fine_at, sited_at, starts_root, settled_by, solved_by}
 use Rattle.places.proofs.settling.settle.Goals as goal
 
 pub divide-words-requires : goal.divide-words-requires
@@ -11,23 +10,20 @@ divide-words-requires c = let e = (read_one c.args.program.read).1 in omega (ari
 pub list_bases-requires : goal.list_bases-requires
 list_bases-requires c = let r = read_one c.args.program.read in (r.0, r.1, omega (arith, c.requires.bases_long, r.1.header.procs))
 
-pub list_sites-count-requires : goal.list_sites-count-requires
-list_sites-count-requires c =
+pub list_sites-listed-requires : goal.list_sites-listed-requires
+list_sites-listed-requires c =
     let r = read_one c.args.program.read in
     let e = r.1 in
     (r.0, record { headed = e; begins = c.list_bases.ensures r.0 e }, omega (arith, c.requires.starts_long, e.header.procs), omega (arith, wanted e _ refl, e.header.work, c.requires.room, c.divide-words.ensures.sites))
 
-pub expand-requires-clause-some : goal.expand-requires-clause-some
-expand-requires-clause-some c =
+pub expand-requires : goal.expand-requires
+expand-requires c =
     let r = read_one c.args.program.read in
-    let h = r.1.header in
-    (r.0, r.1, omega (arith, c.requires.starts_long, h.procs, c.list_sites-count.auto.starts), omega (arith, c.divide-words.ensures.words, h.table))
+    let e = r.1 in
+    (r.0, record { headed = e; begins = c.list_bases.ensures r.0 e }, omega (arith, c.requires.starts_long, e.header.procs, c.list_sites-listed.auto.starts), omega (arith, c.divide-words.ensures.words, e.header.table))
 
-pub slice_bounds-system-end : goal.slice_bounds-system-end
-slice_bounds-system-end c = let r = read_one c.args.program.read in sym (simp length-take (omega (arith, (c.list_sites-count.ensures r.0 r.1).within)))
-
-pub values-requires : goal.values-requires
-values-requires c = let r = read_one c.args.program.read in omega (arith, r.1.reads.few, r.1.header.shared)
+pub shared_values-requires : goal.shared_values-requires
+shared_values-requires c = let r = read_one c.args.program.read in omega (arith, r.1.reads.few, r.1.header.shared)
 
 pub saturate-requires : goal.saturate-requires
 saturate-requires c =
@@ -37,13 +33,13 @@ saturate-requires c =
     let d = c.divide-words.ensures in
     record {
       ready = record {
-        fine = fine_at g e _ _ c.expand.ensures _ c.values.ensures (omega (arith, d.words, e.header.table));
-        sited = sited_at g e _ _ c.expand.ensures _ c.values.ensures _ (sites_cut (good e.reads) _ (omega arith) (c.list_sites-count.ensures g e));
+        fine = fine_at g e _ _ c.expand.ensures _ c.shared_values.ensures (omega (arith, d.words, e.header.table));
+        sited = sited_at g e _ _ c.expand.ensures _ c.shared_values.ensures _ (c.list_sites-listed.ensures g e);
         long = omega (arith, d.sets);
         wide = omega (arith, d.marks);
         short = omega (arith, d.marks, nodes_small e);
       };
-      starts = starts_root g e _ _ c.expand.ensures _ c.values.ensures;
+      starts = starts_root g e _ _ c.expand.ensures _ c.shared_values.ensures;
     }
 
 pub returns-clause-filled : goal.returns-clause-filled
@@ -51,12 +47,11 @@ returns-clause-filled c =
     let d = c.divide-words.ensures in
     record {
       based = c.list_bases.ensures;
-      settled = settled_by c.expand.ensures c.values.ensures (omega arith) c.list_sites-count.ensures c.saturate.ensures;
-      shared = c.values.ensures;
+      settled = settled_by c.expand.ensures c.shared_values.ensures c.list_sites-listed.ensures c.saturate.ensures;
+      shared = c.shared_values.ensures;
       nodes = refl;
-      count = refl;
       bases_long = omega (arith, c.requires.bases_long, c.list_bases.auto.bases);
-      starts_long = omega (arith, c.requires.starts_long, c.list_sites-count.auto.starts);
+      starts_long = omega (arith, c.requires.starts_long, c.list_sites-listed.auto.starts);
       words_long = omega (arith, d.words, c.expand.auto.words);
       sets_long = omega (arith, d.sets, c.saturate.auto.work);
       level_long = d.level;
