@@ -29,12 +29,6 @@ not_call g n (Return a b) h z e = absurd (omega (arith, h.0))
 pub counted_skip : (g : List ℕ) (k t : ℕ) (w : List ℕ) (n : ℕ) (c : List ℕ) → (kind g n ≡ 1 → ⊥) → Counted g k t w n c → Counted g k t w (n + 1) c
 counted_skip g k t w n c z h m x l b = rw (add-one n) (skip (λ p. z p.calls) (h m x l b))
 
-pub counting_none : {g : List ℕ} {k t : ℕ} {w : List ℕ} {n : ℕ} {c : List ℕ} → Counted g k t w n c → Counting g k t w n c 0
-counting_none h = record { done = λ m x l b z. absurd (omega arith); rest = λ m x l b z. h m x l b }
-
-pub counting_all : (g : List ℕ) (k t : ℕ) (w : List ℕ) (n : ℕ) (c : List ℕ) (y : ℕ) → k ≤ y → Counting g k t w n c y → Counted g k t w (n + 1) c
-counting_all g k t w n c y e h m x l b = rw (add-one n) (h.done m x l b (omega arith))
-
 module _ {g : List ℕ} {k t : ℕ} {w : List ℕ} {n : ℕ} {c : List ℕ} {y : ℕ} (h : Counting g k t w n c y) (within : n < t) (calls : kind g n ≡ 1) (b : y < k) where
   pub counting_not : (On w n y → ⊥) → Counting g k t w n c (y + 1)
   counting_not no_bit = record {

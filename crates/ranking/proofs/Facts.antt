@@ -15,12 +15,9 @@ use Rattle.ranking.specs.Levels.{Known}
 pub record Facts (s : System) (p : Procedures) (w c next : List ℕ) : Type 0 where
   pub countable : Countable s w c
   pub some : 0 < length p.bases.now
-  pub most : length p.bases.now ≤ 64
-  pub started : length p.bases.now < length p.starts.now
   pub begins : (f : ℕ) → f < length p.bases.now → (get_or p.bases.now f 0 + s.shared ≤ s.nodes) × (proc s.graph.now (get_or p.bases.now f 0) ≡ get_or p.bases.now f 0)
   pub owner : (n : ℕ) → n < s.nodes → ((f : ℕ) → f < length p.bases.now → get_or p.bases.now f 0 ≢ proc s.graph.now n) → ⊥
   pub apart : (f h : ℕ) → f < length p.bases.now → h < length p.bases.now → get_or p.bases.now f 0 ≡ get_or p.bases.now h 0 → f ≡ h
-  pub listed : (f : ℕ) → f < length p.bases.now → get_or p.starts.now (f + 1) 0 ≤ length s.sites.now
   pub sites : (i : ℕ) → i < length s.sites.now → (site_begin s.sites.now i < s.nodes) × (kind s.graph.now (site_begin s.sites.now i) ≡ 1) × (site_begin s.sites.now i % s.shared ≡ 0)
   pub all : (f n : ℕ) → f < length p.bases.now → n < s.nodes → kind s.graph.now n ≡ 1 → first s.graph.now n ≡ get_or p.bases.now f 0 →
       ((i : ℕ) → get_or p.starts.now f 0 ≤ i → i < get_or p.starts.now (f + 1) 0 → site_begin s.sites.now i ≤ n → n < site_end s.graph.now s.sites.now i → ⊥) → ⊥
@@ -33,12 +30,9 @@ pub facts_of : {s : System} {p : Procedures} {w c next : List ℕ} → Known s p
 facts_of k = record {
   countable = k.countable;
   some = k.grouped.some;
-  most = k.grouped.most;
-  started = k.grouped.started;
   begins = k.grouped.begins;
   owner = λ n h z. let r = k.grouped.owner n h in z r.0 r.1 r.2;
   apart = k.grouped.apart;
-  listed = k.grouped.listed;
   sites = k.grouped.sites;
   all = λ f n hf hn kn e z. let r = k.grouped.all f n hf hn kn e in z r.0 r.1 r.2 r.3 r.4;
   next_long = k.next_long;

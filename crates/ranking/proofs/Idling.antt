@@ -1,34 +1,9 @@
--- The first level: value after value, and procedure after procedure.
-use Rattle.std.proofs.Common.{◌≡◌, ℕ, ◌+◌, ◌-◌, ◌<◌, ◌≤◌, Bool, ◌⊎◌, List, length, get_or, take, drop, sym, ap, ◌∙◌, subst, inl, inr, arith, length-take, length-drop}
+-- The first level: procedure after procedure.
+use Rattle.std.proofs.Common.{◌≡◌, ℕ, ◌+◌, ◌-◌, ◌<◌, ◌≤◌, List, length, get_or, take, drop, sym, ap, ◌∙◌, subst, inl, inr, arith, length-take, length-drop}
 use Rattle.std.proofs.lemmas.Bool.{cases_eq}
 use Rattle.std.proofs.lemmas.List.{get_or-take, get_or-drop}
-use Rattle.saturation.specs.Bits.{On, Added, Grew}
+use Rattle.saturation.specs.Bits.{On}
 use Rattle.ranking.specs.Levels.{IdleAdded}
-
-pub idle_none : (c : List ℕ) (f : ℕ) (level : List ℕ) → IdleAdded 0 c f level level
-idle_none c f level = record { kept = λ h x q. q; got = λ x l. absurd (omega arith); only = λ h x l q. inl q }
-
-module _ {x : ℕ} {c : List ℕ} {f : ℕ} {level mid : List ℕ} (i : IdleAdded x c f level mid) where
-  wider : (h y : ℕ) → On level h y ⊎ ((h ≡ f) × (y < x) × (get_or c y 0 ≡ 0)) → On level h y ⊎ ((h ≡ f) × (y < x + 1) × (get_or c y 0 ≡ 0))
-  wider h y (inl q) = inl q
-  wider h y (inr q) = inr (q.0, omega (arith, q.1), q.2)
-
-  pub idle_skip : (get_or c x 0 ≡ 0 → ⊥) → IdleAdded (x + 1) c f level mid
-  idle_skip n = record {
-    kept = i.kept;
-    got = λ y l e. elim (cases_eq y x) [ inl q ↦ absurd (n (subst (λ z. get_or c z 0 ≡ 0) q e)) | inr q ↦ i.got y (omega arith) e ];
-    only = λ h y l q. wider h y (i.only h y l q);
-  }
-
-  pub idle_add : {after : List ℕ} {new : Bool} → get_or c x 0 ≡ 0 → Added mid after f x → Grew mid after new → IdleAdded (x + 1) c f level after
-  idle_add {after} e add grew = record {
-    kept = λ h y q. grew.kept _ _ (i.kept h y q);
-    got = λ y l z. elim (cases_eq y x) [ inl q ↦ subst (On after f) (sym q) add.got | inr q ↦ grew.kept _ _ (i.got y (omega arith) z) ];
-    only = λ h y l q. elim (add.only h y l q) [
-      | inl u ↦ wider h y (i.only h y l u)
-      | inr u ↦ inr (u.0, omega (arith, u.1), subst (λ z. get_or c z 0 ≡ 0) (sym u.1) e)
-    ];
-  }
 
 -- the procedures below f have been passed
 pub record IdleUpto (k : ℕ) (bases c level : List ℕ) (f : ℕ) : Type 0 where

@@ -1,5 +1,5 @@
 // Level by level: the calls of each entry of a level are removed, and an entry that has no call left then is of the
-// next level.
+// next level. Loops go over numbers of values and of procedures, since a set is asked by number whether it has them.
 ghost use Rattle.std.specs.Prelude.{◌≡◌, ℕ, ◌+◌, ◌*◌, ◌<◌, ◌≤◌, true, false, length, ◌≢◌, slice_index, slice_set, ◌-◌, ◌^◌};
 ghost use Rattle.saturation.specs.Bits.{On};
 ghost use Rattle.saturation.specs.Marks.{Removed};
@@ -170,6 +170,7 @@ impl Ranker<'_, '_, '_, '_, '_> {
         ensures settles { let s = self.old.system in Step (λ d. d ≡ callee s.graph.now s.shared n) self.old self.new }
         ensures gone { (x : ℕ) → x < self.old.system.shared → On self.new.sets.now n x → ⊥ }
     {
+        // Over all values and no iterator of the node's bits, since these change meanwhile.
         for x in 0..self.system.shared {
             if self.is_left(n, x) {
                 self.settle_entry(n, x);
@@ -201,9 +202,9 @@ impl Ranker<'_, '_, '_, '_, '_> {
         ensures settles { Step (λ d. d ≡ number self.old.procedures begun) self.old self.new }
         ensures gone { let s = self.old.system in Done s.graph.now s.shared s.nodes self.new.sets.now (number self.old.procedures begun) }
     {
-        let procedures = self.procedures;
-        let places = procedures.places(begun.procedure);
-        for site in places.start..places.end {
+        let starts = self.procedures.starts;
+        let until = starts[begun.procedure + 1] as usize;
+        for site in starts[begun.procedure] as usize..until {
             self.settle_place(begun, site);
         }
     }

@@ -13,7 +13,6 @@ ghost use Rattle.ranking.specs.Ranks.{Ranked};
 
 use levels::Ranker;
 use saturation::System;
-use std::ops::Range;
 
 mod counts;
 mod first;
@@ -38,15 +37,6 @@ impl Procedures<'_, '_> {
             unreachable!()
         };
         f
-    }
-
-    // The numbers of the call places of procedure `f`.
-    fn places(&self, f: usize) -> Range<usize>
-        requires { f + 1 < length self.now.starts.now }
-        ensures start { result.start ≡ slice_index self.now.starts.now f }
-        ensures end { result.end ≡ slice_index self.now.starts.now (f + 1) }
-    {
-        self.starts[f] as usize..self.starts[f + 1] as usize
     }
 }
 

@@ -24,4 +24,4 @@ returns-clause-gone c n x hn kn q hx o =
     let f = c.args.begun.procedure in
     let k = facts c.args.self.now.known in
     let v = value_is k.countable.fine _ _ n (base_even k f c.requires.0) c.requires.1 hn kn q in
-    k.all f n c.requires.0 hn kn v.0 (λ s a b d e. c.loop-site.invariant.1 s (omega (arith, b, c.places-places.ensures.end, c.loop-site-test.false)) a n x hn kn (d, e, q) hx o)
+    k.all f n c.requires.0 hn kn v.0 (λ s a b d e. c.loop-site.invariant.1 s (omega (arith, b, c.loop-site-test.false)) a n x hn kn (d, e, q) hx o)
