@@ -91,7 +91,7 @@ impl Engine<'_, '_, '_, '_, '_> {
         ensures drained { Drained self.old self.new word }
         ensures empty { slice_index self.new.marks.now.nodes word ≡ 0 }
     {
-        'drain: while let Some(n) = self.marks.take_node(word) {
+        while let Some(n) = self.marks.take_node(word) {
             if n < self.system.nodes {
                 self.visit(n);
             }
@@ -105,7 +105,7 @@ impl Engine<'_, '_, '_, '_, '_> {
         ensures tells { Tells self.old.system.graph.now self.old.system.shared self.old.system.nodes root self.new.sets.now }
     {
         let mut at = 0;
-        'sweep: while let Some(word) = self.marks.take_word(at) {
+        while let Some(word) = self.marks.take_word(at) {
             at = word / 32;
             self.drain(word);
         }

@@ -19,7 +19,7 @@ mod visits;
 // A pushdown system on numbers. A node is the number of a place and a shared value: its rest by `shared`.
 #[derive(Clone, Copy)]
 pub struct System<'g, 's> {
-    // Four words for each node: kind, first, second, and where its procedure begins.
+    // Four words for each node: kind, first, second, and where its procedure begins. Not structs: the memory is lent as words.
     pub graph: &'g [u32],
     // The first node of each place that calls, those of one procedure's calls together.
     pub sites: &'s [u32],
@@ -30,7 +30,7 @@ pub struct System<'g, 's> {
 }
 
 // What a node does: it flows to two nodes; it calls, at the callee's first node, and goes on behind, at the first
-// node of a place; or it returns, to the call places from `begin` to `end`.
+// node of a place; or it returns, to the call places from `begin` to `end` (a `Range` would not be `Copy`).
 #[derive(Clone, Copy, PartialEq, Debug)]
 pub enum Node {
     Flow { first: usize, second: usize },

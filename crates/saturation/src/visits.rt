@@ -6,34 +6,35 @@ ghost use Rattle.saturation.specs.Steps.{Still, CallersMarked, Returned, Visited
 use crate::Node;
 use crate::bits::add;
 use crate::engine::Engine;
+use std::ops::Range;
 
 impl Engine<'_, '_, '_, '_, '_> {
     // Marks the calls that enter the procedure of the return `q` with `x`, those that have a bit set; they stand in
-    // the call places from `begin` to `end`.
-    fn revisit_callers(&mut self, q: usize, begin: usize, end: usize, x: usize)
+    // the call places `sites`.
+    fn revisit_callers(&mut self, q: usize, sites: Range<usize>, x: usize)
         requires within { q < self.old.system.nodes }
-        requires is { Is self.old.system.graph.now q (Node.Return begin end) }
+        requires is { Is self.old.system.graph.now q (Node.Return sites.start sites.end) }
         requires value { x < self.old.system.shared }
         ensures still { Still self.old self.new }
         ensures marked { CallersMarked self.old self.new q x true }
     {
         let system = self.system;
-        for site in begin..end {
+        for site in sites.start..sites.end {
             self.revisit_place(system.place(site), x);
         }
     }
 
     // The procedure of the return `q`, entered with `x`, can return there: if that is new, its calls are marked.
-    fn add_return(&mut self, q: usize, begin: usize, end: usize, x: usize)
+    fn add_return(&mut self, q: usize, sites: Range<usize>, x: usize)
         requires within { q < self.old.system.nodes }
-        requires is { Is self.old.system.graph.now q (Node.Return begin end) }
+        requires is { Is self.old.system.graph.now q (Node.Return sites.start sites.end) }
         requires value { x < self.old.system.shared }
         ensures { Returned self.old self.new q x }
     {
         let system = self.system;
         let entry = system.base(q) + x;
         if add(self.sets, system.nodes + entry, q % system.shared) {
-            self.revisit_callers(q, begin, end, x);
+            self.revisit_callers(q, sites, x);
         }
     }
 
@@ -86,7 +87,7 @@ impl Engine<'_, '_, '_, '_, '_> {
         // No chain: a `filter` would hold the sets that the body writes.
         for x in 0..self.system.shared {
             if self.has(n, x) {
-                self.add_return(n, begin, end, x);
+                self.add_return(n, begin..end, x);
             }
         }
     }

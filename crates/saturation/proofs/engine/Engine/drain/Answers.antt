@@ -3,11 +3,11 @@ use Rattle.std.proofs.Common.{refl}
 use Rattle.saturation.proofs.Draining.{still_of, drain_less, drained_visit, drained_pass}
 use Rattle.saturation.proofs.engine.Engine.drain.Goals as goal
 
-pub drain-smaller-then-n-self : goal.drain-smaller-then-n-self
-drain-smaller-then-n-self c = drain_less c.drain.invariant (still_of refl refl refl refl) c.in-Some.ensures _ refl c.visit.ensures
+pub loop-n-smaller-then-n-self : goal.loop-n-smaller-then-n-self
+loop-n-smaller-then-n-self c = drain_less c.loop-n.invariant (still_of refl refl refl refl) c.in-Some.ensures _ refl c.visit.ensures
 
-pub drain-preserved-then-n-self : goal.drain-preserved-then-n-self
-drain-preserved-then-n-self c = drained_visit c.drain.invariant (still_of refl refl refl refl) c.in-Some.ensures c.visit.ensures
+pub loop-n-preserved-then-n-self : goal.loop-n-preserved-then-n-self
+loop-n-preserved-then-n-self c = drained_visit c.loop-n.invariant (still_of refl refl refl refl) c.in-Some.ensures c.visit.ensures
 
-pub drain-preserved : goal.drain-preserved
-drain-preserved c = drained_pass c.drain.invariant (still_of refl refl refl refl) c.in-Some.ensures c.if-n-self.false
+pub loop-n-preserved : goal.loop-n-preserved
+loop-n-preserved c = drained_pass c.loop-n.invariant (still_of refl refl refl refl) c.in-Some.ensures c.if-n-self.false

@@ -4,4 +4,4 @@ use Rattle.saturation.proofs.Sites.{SitesPassed}
 use Rattle.saturation.proofs.engine.Engine.revisit_callers.Given as goal
 
 abbrev pub invariant-loop-site : goal.invariant-loop-site
-invariant-loop-site l = Still l.initial.self l.self × SitesPassed l.initial.self.system.graph.now l.initial.self.system.sites.now l.initial.self.system.shared l.x l.initial.self.sets.now l.initial.self.marks.now l.self.marks.now l.begin l.site
+invariant-loop-site l = Still l.initial.self l.self × SitesPassed l.initial.self.system.graph.now l.initial.self.system.sites.now l.initial.self.system.shared l.x l.initial.self.sets.now l.initial.self.marks.now l.self.marks.now l.fn.sites.start l.site

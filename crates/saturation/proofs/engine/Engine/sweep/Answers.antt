@@ -3,8 +3,8 @@ use Rattle.std.proofs.Common.{refl, arith}
 use Rattle.saturation.proofs.Draining.{still_of, sweep_kept, sweep_begun, sweep_size, swept}
 use Rattle.saturation.proofs.engine.Engine.sweep.Goals as goal
 
-pub sweep-preserved : goal.sweep-preserved
-sweep-preserved c = let o = c.sweep.invariant in let t = c.in-Some.ensures.taken in let d = c.drain.ensures.drained in (
+pub loop-word-preserved : goal.loop-word-preserved
+loop-word-preserved c = let o = c.loop-word.invariant in let t = c.in-Some.ensures.taken in let d = c.drain.ensures.drained in (
   sweep_kept o.0 (still_of refl refl refl refl) t d,
   sweep_size o.0 (still_of refl refl refl refl) t d o.1,
   omega (arith, t.within.1, t.size.words, d.size.words),
@@ -12,4 +12,4 @@ sweep-preserved c = let o = c.sweep.invariant in let t = c.in-Some.ensures.taken
 )
 
 pub returns-clause-tells : goal.returns-clause-tells
-returns-clause-tells c = swept c.args.self.now.ready.fine c.sweep.invariant.3 c.in_default.ensures.taken
+returns-clause-tells c = swept c.args.self.now.ready.fine c.loop-word.invariant.3 c.in_default.ensures.taken
