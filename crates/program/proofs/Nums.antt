@@ -1,9 +1,9 @@
 -- Values as numbers and back: lists of bits, and what `|`, `&`, `!` and `>>` do to them.
-use Rattle.std.proofs.Common.{◌≡◌, ℕ, zero, suc, ◌+◌, ◌-◌, ◌*◌, ◌/◌, ◌%◌, ◌^◌, ◌<◌, ◌≤◌, Bool, true, false, eqb, List, [], ◌∷◌, ◌++◌, length, sym, refl, ap, ◌∙◌, mod-eq_of_lt, suc-add, zero-add, div-one, add-one, arith, pow_mono}
+use Rattle.std.proofs.Common.{◌≡◌, ℕ, zero, suc, ◌+◌, ◌-◌, ◌*◌, ◌/◌, ◌%◌, ◌^◌, ◌<◌, ◌≤◌, Bool, true, false, eqb, List, [], ◌∷◌, ◌++◌, length, sym, refl, ap, ◌∙◌, mod-eq_of_lt, suc-add, zero-add, div-one, arith, pow_mono}
 use mathlib.Core.Option.{some}
 use Rattle.program.specs.Program.{pick, nth, put, blank, or_f}
-use native.Mathlib.Nat.{two-pow-succ, mod-one}
-use Rattle.std.proofs.lemmas.Nat.{mod_low, shr_high, shr-shr, mod-pow-add, pow_pos, pow_below, or_lt, and_le_l, one_shl, and_mask}
+use native.Mathlib.Nat.{two-pow-succ}
+use Rattle.std.proofs.lemmas.Nat.{mod_low, shr_high, shr-shr, pow_pos, pow_below, or_lt, and_le_l, one_shl, and_mask}
 use lib.Bits.{bit_or, bit_and, or_step, and_step, or_zero_r}
 use Rattle.program.specs.Table.{num}
 use Rattle.program.specs.Values.{odd, bits}
@@ -38,11 +38,6 @@ bits_num (b ∷ l) = rw (odd_num b (num l), half_num b (num l), bits_num l)
 pub half_shr : (v x : ℕ) → v / 2 / 2 ^ x ≡ v / 2 ^ suc x
 half_shr v x = shr-shr v 1 x ∙ ap (λ z. v / 2 ^ z) (omega arith)
 
--- with no bound: the low part of any number
-pub num_bits_mod : (n v : ℕ) → num (bits n v) ≡ v % 2 ^ n
-num_bits_mod zero v = sym (mod-one v)
-num_bits_mod (suc n) v = omega (arith, num_bits_mod n (v / 2), odd_is v, rw (add-one n) at (mod-pow-add v n 1))
-
 pub bits_append : (k o v : ℕ) → bits (k + o) v ≡ bits k v ++ bits o (v / 2 ^ k)
 bits_append zero o v = rw (zero-add o, div-one v)
 bits_append (suc k) o v = rw (suc-add k o) (ap (◌∷◌ (odd v)) (rw (← half_shr v k) (bits_append k o (v / 2))))
@@ -71,11 +66,6 @@ pub nth_bits : (n v x : ℕ) → x < n → nth (bits n v) x ≡ some (odd (v / 2
 nth_bits zero v x h = absurd (omega arith)
 nth_bits (suc n) v zero h = rw (div-one v)
 nth_bits (suc n) v (suc x) h = nth_bits n (v / 2) x (omega arith) ∙ ap (λ z. some (odd z)) (half_shr v x)
-
-pub num_put : (l : List Bool) (x : ℕ) (b c : Bool) → nth l x ≡ some b → num (put l x c) + pick b 1 0 * 2 ^ x ≡ num l + pick c 1 0 * 2 ^ x
-num_put [] x b c h = absurd cc
-num_put (d ∷ l) zero b c h = let e : d ≡ b = cc in rw e (omega arith)
-num_put (d ∷ l) (suc x) b c h = rw (two-pow-succ x) (omega (arith, num_put l x b c h))
 
 pub length_put : (l : List Bool) (x : ℕ) (c : Bool) → length (put l x c) ≡ length l
 length_put [] x c = refl

@@ -1,18 +1,11 @@
 -- Reading one step: a case for each byte that comes first, as for an expression.
-use Rattle.std.proofs.Common.{◌≡◌, ℕ, ◌+◌, ◌<◌, List, [], ◌∷◌, length, Ok, refl, subst, arith}
+use Rattle.std.proofs.Common.{◌≡◌, ℕ, ◌+◌, List, [], ◌∷◌, Ok, refl, subst, arith}
 use Rattle.program.specs.declared.steps.Step.TheVariants.{Set, Open, Go, Call, Return}
 use Rattle.program.specs.declared.steps.Scope.{Scope}
-use Rattle.program.specs.Program.{I, set, open1, go, call, return}
-use Rattle.program.specs.Rows.{row_e, row_i, OkE}
+use Rattle.program.specs.Program.{set, open1, go, call, return}
+use Rattle.program.specs.Rows.{row_e, OkE}
 use Rattle.program.specs.Reading.{Stands, Got, ReadNumber, ReadStep}
 use Rattle.program.proofs.Standing.{stands_join, stands_pair}
-
-pub row_i_some : (i : I) → 0 < length (row_i i)
-row_i_some (set x e) = omega arith
-row_i_some (open1 x) = omega arith
-row_i_some (go e p) = omega arith
-row_i_some (call f) = omega arith
-row_i_some return = omega arith
 
 -- the byte b comes first
 module _ (c : Scope) (s : List ℕ) (at b : ℕ) (first : Stands s at (at + 1) (b ∷ [])) where

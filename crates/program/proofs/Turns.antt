@@ -1,6 +1,6 @@
 -- Walks through procedures and steps: what was read at each turn, and that a walk through a program that
 -- was read ends only behind its last procedure, and behind the last step of a procedure.
-use Rattle.std.proofs.Common.{◌≡◌, ℕ, suc, ◌+◌, ◌<◌, ◌≤◌, List, length, drop, ◌++◌, Some, None, Ok, Err, Result, ap, ◌∙◌, subst, inl, inr, append_assoc, ⊎_elim, arith}
+use Rattle.std.proofs.Common.{◌≡◌, ℕ, ◌+◌, ◌<◌, ◌≤◌, List, Some, None, Ok, Err, Result, ap, ◌∙◌, subst, inl, inr, ⊎_elim, arith}
 use Rattle.std.proofs.lemmas.Bool.{cases_lt}
 use Rattle.std.specs.Result.{result_ok}
 use Rattle.program.specs.declared.procedures.Procedure.{Procedure}
@@ -9,12 +9,12 @@ use Rattle.program.specs.declared.steps.Found.{Found}
 use Rattle.program.specs.declared.steps.Scope.{Scope}
 use Rattle.program.specs.declared.walks.Procedures.{Procedures}
 use Rattle.program.specs.declared.walks.Steps.{Steps}
-use Rattle.program.specs.Program.{I, Prog}
-use Rattle.program.specs.Rows.{row_i, row_p, rows, OkP, Every, Reads}
+use Rattle.program.specs.Program.{Prog}
+use Rattle.program.specs.Rows.{row_i, row_p, OkP, Reads}
 use Rattle.program.specs.Reading.{Nothing, InScope, ReadStep, ReadProc, HeaderOf}
 use Rattle.program.specs.Walking.{Rest}
 use Rattle.program.specs.Walks.{AtProcedure, GivesProcedure, AtStep, GivesStep}
-use Rattle.program.proofs.Walk.{split, every_nth, rest_some}
+use Rattle.program.proofs.Walk.{rest_some}
 
 -- what `ok` keeps
 pub was_ok : {T E : Type 0} (r : Result T E) (x : T) → result_ok r ≡ Some x → r ≡ Ok x
@@ -64,9 +64,3 @@ module _ {s : List ℕ} {c : Scope} {n a at : ℕ} {w : Steps} (here : AtStep s 
           let r : Nothing row_i (InScope c) s w.at = subst (λ z. Nothing row_i (InScope z) s w.at) here.scope (subst (λ z. Nothing row_i (InScope w.scope) z w.at) here.bytes q) in
           let b : a ≤ n = omega (arith, here.left) in
           elim (cases_lt a n) [ inl l ↦ absurd (there l (subst (Nothing row_i (InScope c) s) here.at r)) | inr l ↦ omega arith ]
-
-  -- so where a procedure was read the walk ends behind its last step
-  pub steps_all : (is : List I) (r : List ℕ) (v : Steps) → GivesStep w None v → drop at s ≡ rows row_i (drop a is) ++ r → Every (InScope c) is → length is ≡ n → a ≡ n
-  steps_all is r v k stand fine len = step_last v k (λ l q.
-      let i = split is a (omega arith) in
-      q i.0 (rows row_i (drop (suc a) is) ++ r) (stand ∙ ap (λ z. rows row_i z ++ r) i.2 ∙ append_assoc (row_i i.0) (rows row_i (drop (suc a) is)) r) (every_nth (InScope c) is a i.0 fine i.1))

@@ -1,6 +1,6 @@
 // Values of variables as the bits of a number: variable x is bit x. Each function says what it does to
 // the list of the low n bits, for any n that the values fit.
-ghost use Rattle.std.specs.Prelude.{◌<◌, true, false};
+ghost use Rattle.std.specs.Prelude.{◌<◌};
 ghost use Rattle.program.specs.Values.{Puts, Tests};
 
 // The values with variable `var` become `yes`.
@@ -14,22 +14,6 @@ pub fn put_bit(values: u32, var: u32, yes: bool) -> u32
     } else {
         values & !(1 << var)
     }
-}
-
-// The values with variable `var` yes.
-pub fn set_bit(values: u32, var: u32) -> u32
-    requires { var < 32 }
-    ensures { Puts values var true result }
-{
-    put_bit(values, var, true)
-}
-
-// The values with variable `var` no.
-pub fn clear_bit(values: u32, var: u32) -> u32
-    requires { var < 32 }
-    ensures { Puts values var false result }
-{
-    put_bit(values, var, false)
 }
 
 // Whether variable `var` is yes.
