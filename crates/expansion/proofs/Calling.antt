@@ -24,11 +24,11 @@ use Rattle.expansion.proofs.Collecting.{adds_add, adds_same}
 
 -- a step that means a call of procedure e, and one that doesn't
 pub is_call : (s : List ℕ) (end e : ℕ) (d : Step) → Means s end d (call e) → IsCall d e
-is_call s end e (Set x at) m = let z : ◌≡◌ {A = ℕ} 0 1 = (let q = m.1 in cc) in absurd (omega arith)
-is_call s end e (Open x) m = let z : ◌≡◌ {A = ℕ} 0 1 = cc in absurd (omega arith)
-is_call s end e (Go t at) m = let z : ◌≡◌ {A = ℕ} 0 1 = (let q = m.1 in cc) in absurd (omega arith)
+is_call s end e (Set x at) m = let q = m.1 in cc
+is_call s end e (Open x) m = cc
+is_call s end e (Go t at) m = let q = m.1 in cc
 is_call s end e (Call d) m = (d, refl, (let q : e ≡ d.0 = cc in sym q))
-is_call s end e Return m = let z : ◌≡◌ {A = ℕ} 0 1 = cc in absurd (omega arith)
+is_call s end e Return m = cc
 
 pub call_means : (s : List ℕ) (end e : ℕ) (d : Step) (i : I) → IsCall d e → Means s end d i → i ≡ call e
 call_means s end e d i h m = (let q : Means s end (Call h.0) i = subst (λ z. Means s end z i) h.1 m in q ∙ ap call h.2)

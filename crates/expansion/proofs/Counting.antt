@@ -1,8 +1,10 @@
 -- How many calls there are: those of different procedures are different steps.
-use Rattle.std.proofs.Common.{◌≡◌, ℕ, zero, suc, ◌+◌, ◌*◌, ◌≤◌, List, [], ◌∷◌, length, drop, refl, ap, add-one, arith}
+use Rattle.std.proofs.Common.{◌≡◌, ℕ, zero, suc, ◌+◌, ◌*◌, ◌≤◌, List, [], ◌∷◌, length, drop, refl, ap, ◌∙◌, add-one, arith}
 use mathlib.Core.Option.{some}
 use Rattle.program.specs.Program.{nth, I, set, open1, go, call, return, Proc}
 use Rattle.program.specs.Rows.{Every, OkP}
+use Rattle.program.proofs.Kept.{nth_lt}
+use Rattle.program.proofs.Walk.{split}
 use Rattle.expansion.specs.Sites.{steps}
 use Rattle.expansion.specs.Listing.{same, hit, calls_in, calls_of}
 
@@ -90,21 +92,14 @@ pub steps_few : (k m : ℕ) (ps : List Proc) → Every (OkP k m) ps → steps ps
 steps_few k m [] o = omega arith
 steps_few k m (p ∷ ps) o = omega (arith, o.0.short, steps_few k m ps o.1)
 
--- the calls from place a on, and from the next
-calls_from : (e a : ℕ) (is : List I) (i : I) → nth is a ≡ some i → calls_in e (drop a is) ≡ hit e i + calls_in e (drop (suc a) is)
-unfolding calls_in
-calls_from e a [] i h = let z : ◌≡◌ {A = ℕ} 0 1 = cc in absurd (omega arith)
-calls_from e zero (j ∷ is) i h = let q : j ≡ i = cc in ap (λ z. hit e z + calls_in e is) q
-calls_from e (suc a) (j ∷ is) i h = calls_from e a is i h
+-- what stands at a place is the first of those from there on
+drop_at : {A : Type 0} (xs : List A) (n : ℕ) (x : A) → nth xs n ≡ some x → drop n xs ≡ x ∷ drop (n + 1) xs
+drop_at xs n x h = let k = split xs n (nth_lt xs n x h) in rw add-one (k.2 ∙ ap (λ y. y ∷ drop (suc n) xs) (let e = k.1 in cc))
 
 pub calls_step : (e a : ℕ) (is : List I) (i : I) → nth is a ≡ some i → calls_in e (drop a is) ≡ hit e i + calls_in e (drop (a + 1) is)
-calls_step e a is i h = rw add-one (calls_from e a is i h)
-
-procs_from : (e f : ℕ) (ps : List Proc) (p : Proc) → nth ps f ≡ some p → calls_of e (drop f ps) ≡ calls_in e p.steps + calls_of e (drop (suc f) ps)
-unfolding calls_of
-procs_from e f [] p h = let z : ◌≡◌ {A = ℕ} 0 1 = cc in absurd (omega arith)
-procs_from e zero (q ∷ ps) p h = let r : q ≡ p = cc in ap (λ z. calls_in e z.steps + calls_of e ps) r
-procs_from e (suc f) (q ∷ ps) p h = procs_from e f ps p h
+unfolding calls_in
+calls_step e a is i h = ap (calls_in e) (drop_at is a i h)
 
 pub calls_proc : (e f : ℕ) (ps : List Proc) (p : Proc) → nth ps f ≡ some p → calls_of e (drop f ps) ≡ calls_in e p.steps + calls_of e (drop (f + 1) ps)
-calls_proc e f ps p h = rw add-one (procs_from e f ps p h)
+unfolding calls_of
+calls_proc e f ps p h = ap (calls_of e) (drop_at ps f p h)

@@ -54,13 +54,6 @@ pub struct Place {
     pub shared: u32,
 }
 
-// A procedure that is written: its program, and its call places.
-#[derive(Clone, Copy)]
-pub struct Body<'b> {
-    pub source: Source<'b>,
-    pub callers: Callers,
-}
-
 impl Place {
     // The place after this one.
     pub fn next(self) -> Place
@@ -72,6 +65,13 @@ impl Place {
             ..self
         }
     }
+}
+
+// A procedure that is written: its program, and its call places.
+#[derive(Clone, Copy)]
+pub struct Body<'b> {
+    pub source: Source<'b>,
+    pub callers: Callers,
 }
 
 // Writes the words of node `n`: a number that tells its kind of action, two that go with it, and where its

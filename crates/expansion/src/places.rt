@@ -1,4 +1,4 @@
-// The words of all nodes of a place. A node's number is cast by `as`, since std has no `From` of a u32 for usize.
+// The words of all nodes of a place.
 ghost use Rattle.std.specs.Prelude.{ℕ, ◌+◌, ◌*◌, ◌≤◌, length};
 ghost use Rattle.program.specs.Program.{Prog, Proc};
 ghost use Rattle.program.specs.Table.{total};

@@ -43,10 +43,10 @@ impl<'s> Sites<'s> {
         requires { IsCall step callee → self.old.count < length self.old.words.now }
         ensures { Noted step callee node self.old self.new }
     {
-        if let Step::Call(to) = step {
-            if usize::from(to.0) == callee {
-                self.push(node);
-            }
+        if let Step::Call(to) = step
+            && usize::from(to.0) == callee
+        {
+            self.push(node);
         }
     }
 
