@@ -16,7 +16,6 @@ pub fn measure(program: Program, work: &mut [u32]) -> Option<u64>
     requires { program.header.work ≤ length work.old }
     ensures { (g : Prog) → Headed program.entry.bytes.now program.entry.header g → Measured g result }
 {
-    let procs = program.header.procs;
     let mut bases = [0u32; MOST_PROCEDURES];
     let mut starts = [0u32; MOST_STARTS];
     let Saturated {
@@ -25,7 +24,7 @@ pub fn measure(program: Program, work: &mut [u32]) -> Option<u64>
         sets,
         level,
         next,
-    } = settle(program, &mut bases[..procs], &mut starts[..=procs], work);
+    } = settle(program, &mut bases, &mut starts, work);
     let (entries, counts) = sets.split_at_mut(2 * system.nodes);
     rank(system, procedures, entries, counts, level, next)
 }

@@ -1,5 +1,5 @@
 // Solving a program, for the table and for the depth: its words, its call places and its sets, in lent words.
-ghost use Rattle.std.specs.Prelude.{◌≡◌, ◌+◌, ◌≤◌, length};
+ghost use Rattle.std.specs.Prelude.{◌<◌, ◌≤◌, length};
 ghost use Rattle.places.specs.Settling.{Filled};
 ghost use Rattle.places.specs.Solving.{Solved};
 
@@ -26,8 +26,8 @@ pub struct Saturated<'w> {
     pub next: &'w mut [u32],
 }
 
-// Solves a program, in as many work words as it wants; `bases` and `starts` have a word for each procedure, and
-// `starts` one more. The memory may hold anything before.
+// Solves a program, in as many work words as it wants; `bases` has a word for each procedure, and `starts` one more.
+// The memory may hold anything before.
 pub fn settle<'w>(
     program: Program,
     bases: &'w mut [u32],
@@ -35,8 +35,8 @@ pub fn settle<'w>(
     work: &'w mut [u32],
 ) -> Saturated<'w>
     requires room { program.header.work ≤ length work.old }
-    requires bases_long { length bases.old ≡ program.header.procs }
-    requires starts_long { length starts.old ≡ program.header.procs + 1 }
+    requires bases { program.header.procs ≤ length bases.old }
+    requires starts { program.header.procs < length starts.old }
     ensures filled { Filled program.entry result }
     ensures solved { Solved program.entry.bytes.now program.entry.header result.sets.now }
 {
@@ -49,6 +49,8 @@ pub fn settle<'w>(
         next,
         sites,
     } = divide(work, header.table);
+    let bases = &mut bases[..header.procs];
+    let starts = &mut starts[..=header.procs];
     list_bases(bytes, header, bases);
     let source = Source {
         bytes,

@@ -49,13 +49,12 @@ pub fn tell(program: Program, table: &mut [u8], work: &mut [u32])
     requires long { length table.old ≡ program.header.table }
     ensures { (g : Prog) → Headed program.entry.bytes.now program.entry.header g → Table g table.new }
 {
-    let procs = program.header.procs;
     let mut bases = [0u32; MOST_PROCEDURES];
     let mut starts = [0u32; MOST_STARTS];
     let Saturated {
         procedures,
         sets,
         ..
-    } = settle(program, &mut bases[..procs], &mut starts[..=procs], work);
+    } = settle(program, &mut bases, &mut starts, work);
     write_table(sets, procedures.bases, table);
 }

@@ -1,4 +1,4 @@
-use Rattle.std.proofs.Common.{refl, arith}
+use Rattle.std.proofs.Common.{◌≡◌, ◌+◌, length, refl, ◌∙◌, arith, length-take}
 use Rattle.places.proofs.Reading.{read_one}
 use Rattle.places.proofs.Telling.{wanted, nodes_small}
 use Rattle.places.proofs.Solved.{fine_at, sited_at, starts_root, settled_by, solved_by}
@@ -8,19 +8,20 @@ pub divide-words-requires : goal.divide-words-requires
 divide-words-requires c = let e = (read_one c.args.program.read).1 in omega (arith, wanted e _ refl, e.header.work, c.requires.room)
 
 pub list_bases-requires : goal.list_bases-requires
-list_bases-requires c = let r = read_one c.args.program.read in (r.0, r.1, omega (arith, c.requires.bases_long, r.1.header.procs))
+list_bases-requires c = let r = read_one c.args.program.read in (r.0, r.1, simp length-take (omega (arith, c.requires.bases, r.1.header.procs)))
 
 pub list_sites-listed-requires : goal.list_sites-listed-requires
 list_sites-listed-requires c =
     let r = read_one c.args.program.read in
     let e = r.1 in
-    (r.0, record { headed = e; begins = c.list_bases.ensures r.0 e }, omega (arith, c.requires.starts_long, e.header.procs), omega (arith, wanted e _ refl, e.header.work, c.requires.room, c.divide-words.ensures.sites))
+    (r.0, record { headed = e; begins = c.list_bases.ensures r.0 e }, simp length-take (omega (arith, c.requires.starts, e.header.procs)), omega (arith, wanted e _ refl, e.header.work, c.requires.room, c.divide-words.ensures.sites))
 
 pub expand-requires : goal.expand-requires
 expand-requires c =
     let r = read_one c.args.program.read in
     let e = r.1 in
-    (r.0, record { headed = e; begins = c.list_bases.ensures r.0 e }, omega (arith, c.requires.starts_long, e.header.procs, c.list_sites-listed.auto.starts), omega (arith, c.divide-words.ensures.words, e.header.table))
+    let long : length c.list_sites-listed.new.starts ≡ c.args.program.header.procs + 1 = c.list_sites-listed.auto.starts ∙ simp length-take (omega (arith, c.requires.starts)) in
+    (r.0, record { headed = e; begins = c.list_bases.ensures r.0 e }, omega (arith, long, e.header.procs), omega (arith, c.divide-words.ensures.words, e.header.table))
 
 pub shared_values-requires : goal.shared_values-requires
 shared_values-requires c = let r = read_one c.args.program.read in omega (arith, r.1.reads.few, r.1.header.shared)
@@ -50,8 +51,8 @@ returns-clause-filled c =
       settled = settled_by c.expand.ensures c.shared_values.ensures c.list_sites-listed.ensures c.saturate.ensures;
       shared = c.shared_values.ensures;
       nodes = refl;
-      bases_long = omega (arith, c.requires.bases_long, c.list_bases.auto.bases);
-      starts_long = omega (arith, c.requires.starts_long, c.list_sites-listed.auto.starts);
+      bases_long = c.list_bases.auto.bases ∙ simp length-take (omega (arith, c.requires.bases));
+      starts_long = c.list_sites-listed.auto.starts ∙ simp length-take (omega (arith, c.requires.starts));
       words_long = omega (arith, d.words, c.expand.auto.words);
       sets_long = omega (arith, d.sets, c.saturate.auto.work);
       level_long = d.level;
