@@ -14,7 +14,7 @@ use Rattle.program.proofs.Sizes.{before_none}
 use Rattle.program.proofs.Kept.{nth_some, nth_lt}
 use Rattle.program.proofs.Targets.{loc_lt, moves_of, begins_at, flow_to, call_to, flow_in, call_in, resume_in}
 use Rattle.expansion.specs.declared.nodes.Node.{Node}
-use Rattle.expansion.specs.Words.{Holds, Codes, Upto}
+use Rattle.expansion.specs.Words.{kind_of, first_of, second_of, Holds, Codes, Upto}
 use Rattle.expansion.specs.Programs.{Begin}
 use Rattle.expansion.specs.Sites.{SitesAre}
 use Rattle.ranking.specs.Calls.{Aligned, Grouped}
@@ -28,12 +28,12 @@ pub record Four (w : List ℕ) (n k a b c : ℕ) : Type 0 where
   pub second_is : second w n ≡ b
   pub proc_is : proc w n ≡ c
 
-four : (w : List ℕ) (n : ℕ) (d e : Node) → Holds w n d → d ≡ e → Four w n e.kind e.first e.second e.base
+four : (w : List ℕ) (n : ℕ) (d e : Node) → Holds w n d → d ≡ e → Four w n (kind_of e.action) (first_of e.action) (second_of e.action) e.base
 unfolding kind first second proc
 four w n d e h q = record {
-  kind_is = h.kind ∙ ap (λ (z : Node). z.kind) q;
-  first_is = h.first ∙ ap (λ (z : Node). z.first) q;
-  second_is = h.second ∙ ap (λ (z : Node). z.second) q;
+  kind_is = h.kind ∙ ap (λ (z : Node). kind_of z.action) q;
+  first_is = h.first ∙ ap (λ (z : Node). first_of z.action) q;
+  second_is = h.second ∙ ap (λ (z : Node). second_of z.action) q;
   proc_is = h.base ∙ ap (λ (z : Node). z.base) q;
 }
 
@@ -161,8 +161,8 @@ module _ (g : Prog) (starts w : List ℕ) (good : Good g) (few : g.shared ≤ 6)
   base_even d = let r = before_times g.shared g.procs d in rw r.1 (mul-mod_left r.0 K)
 
   -- a call's first word is where the procedure called begins
-  first_of : {n m r : ℕ} (o : MoveOf g n (down m r)) → first w n ≡ B (call_to good o).d
-  first_of {n} o =
+  callee_of : {n m r : ℕ} (o : MoveOf g n (down m r)) → first w n ≡ B (call_to good o).d
+  callee_of {n} o =
       let x = at_down o in
       let c = call_to good o in
       let e : n % K ≡ o.v % K = ap (λ z. z % K) o.at.is ∙ loc_mod g o.f o.p o.a o.v in
@@ -192,7 +192,7 @@ module _ (g : Prog) (starts w : List ℕ) (good : Good g) (few : g.shared ≤ 6)
   callees_of (on x y) o z = absurd (let f = at_on o in omega (arith, f.kind_is))
   callees_of {n} (down m r) o z =
       let c = call_to good o in
-      let e = first_of o in
+      let e = callee_of o in
       (rw e (base_even c.d), rw e (begins_lt c.d c.q c.there), λ x l. proc_is_at (begins_at g c.d c.q c.there (first w n + x) x l (omega (arith, e))) ∙ sym e)
   callees_of up o z = absurd (let f = at_up o in omega (arith, f.kind_is))
 
@@ -263,7 +263,7 @@ module _ (g : Prog) (starts w : List ℕ) (good : Good g) (few : g.shared ≤ 6)
     listed_at {n} o f q there e =
         let ca = call_to good o in
         let W = 2 ^ (g.shared + o.p.own) in
-        let same : B ca.d + 0 ≡ B f + 0 = omega (arith, first_of o, e) in
+        let same : B ca.d + 0 ≡ B f + 0 = omega (arith, callee_of o, e) in
         let de = (before_inj g.shared g.procs ca.d f ca.q q 0 0 ca.there there (size_pos ca.q) (size_pos q) same).0 in
         let st : nth o.p.steps o.a ≡ some (call f) = ca.step ∙ ap (λ z. some (call z)) de in
         let x = si.all o.f o.p o.a f o.at.there st in
@@ -292,42 +292,41 @@ module _ (g : Prog) (starts w : List ℕ) (good : Good g) (few : g.shared ≤ 6)
     }
 
     -- WHAT RANKING ASKS
-    module _ (bases : List ℕ) (procs : ℕ) (count : procs ≡ length g.procs) (begin : Begin bases g (length g.procs)) where
-      based : (f : ℕ) → f < procs → get_or bases f 0 ≡ B f
+    module _ (bases : List ℕ) (count : length bases ≡ length g.procs) (begin : Begin bases g (length g.procs)) where
+      based : (f : ℕ) → f < length bases → get_or bases f 0 ≡ B f
       based f l = (begin f (omega arith)).1
 
-      there : (f : ℕ) → f < procs → (p : Proc) × (nth g.procs f ≡ some p)
+      there : (f : ℕ) → f < length bases → (p : Proc) × (nth g.procs f ≡ some p)
       there f l = nth_some g.procs f (omega arith)
 
-      begins_of : (f : ℕ) → f < procs → (get_or bases f 0 + K ≤ T) × (proc w (get_or bases f 0) ≡ get_or bases f 0)
+      begins_of : (f : ℕ) → f < length bases → (get_or bases f 0 + K ≤ T) × (proc w (get_or bases f 0) ≡ get_or bases f 0)
       begins_of f l =
           let q = there f l in
           let e = based f l in
           (omega (arith, e, begins_lt f q.0 q.1), rw e (proc_is_at (begins_at g f q.0 q.1 (B f) 0 k_pos (omega arith))))
 
-      owner_of : (n : ℕ) → n < T → (f : ℕ) × (f < procs) × (get_or bases f 0 ≡ proc w n)
+      owner_of : (n : ℕ) → n < T → (f : ℕ) × (f < length bases) × (get_or bases f 0 ≡ proc w n)
       owner_of n l =
           let k = moves_of {g = g} n l in
           let o = k.1 in
-          let h : o.f < procs = omega (arith, nth_lt g.procs o.f o.p o.at.there) in
+          let h : o.f < length bases = omega (arith, nth_lt g.procs o.f o.p o.at.there) in
           (o.f, h, based o.f h ∙ sym (proc_of k.0 o))
 
-      apart_of : (f h : ℕ) → f < procs → h < procs → get_or bases f 0 ≡ get_or bases h 0 → f ≡ h
+      apart_of : (f h : ℕ) → f < length bases → h < length bases → get_or bases f 0 ≡ get_or bases h 0 → f ≡ h
       apart_of f h hf hh e =
           let q = there f hf in
           let r = there h hh in
           (before_inj g.shared g.procs f h q.0 r.0 0 0 q.1 r.1 (size_pos q.0) (size_pos r.0) (omega (arith, based f hf, based h hh))).0
 
-      all_of : {n : ℕ} (k : Move) → MoveOf g n k → (f : ℕ) → f < procs → kind w n ≡ 1 → first w n ≡ get_or bases f 0 → (s : ℕ) × (get_or starts f 0 ≤ s) × (s < get_or starts (f + 1) 0) × (site_begin c s ≤ n) × (n < site_end w c s)
+      all_of : {n : ℕ} (k : Move) → MoveOf g n k → (f : ℕ) → f < length bases → kind w n ≡ 1 → first w n ≡ get_or bases f 0 → (s : ℕ) × (get_or starts f 0 ≤ s) × (s < get_or starts (f + 1) 0) × (site_begin c s ≤ n) × (n < site_end w c s)
       all_of (on x y) o f l z e = absurd (let h = at_on o in omega (arith, h.kind_is))
       all_of up o f l z e = absurd (let h = at_up o in omega (arith, h.kind_is))
       all_of (down m r) o f l z e = let q = there f l in listed_at o f q.0 q.1 (e ∙ based f l)
 
-      pub grouped : procs ≤ length bases → procs < length starts → procs ≤ 64 → Grouped w K T c bases starts procs
-      grouped long more most = record {
+      pub grouped : length bases < length starts → length bases ≤ 64 → Grouped w K T c bases starts
+      grouped more most = record {
         some = omega (arith, good.some_proc);
         most = most;
-        based = long;
         started = more;
         begins = begins_of;
         owner = owner_of;

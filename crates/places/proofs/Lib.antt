@@ -6,3 +6,4 @@ pub mod Telling
 pub mod Answering
 pub mod Work
 pub mod Ranking
+pub mod Reading

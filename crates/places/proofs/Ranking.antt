@@ -1,14 +1,12 @@
 -- A solved program can be ranked, and its rank is the greatest number that can wait: chains of calls in the words
 -- are chains on its numbers, and these are as long as the stacks of its runs.
-use Rattle.std.proofs.Common.{◌≡◌, ℕ, zero, suc, ◌+◌, ◌*◌, ◌/◌, ◌%◌, ◌^◌, ◌<◌, ◌≤◌, List, ◌++◌, length, get_or, take, Some, None, Option, sym, refl, ap, ◌∙◌, subst, arith}
-use Rattle.places.proofs.Telling.{wanted, nodes_small}
+use Rattle.std.proofs.Common.{◌≡◌, ℕ, ◌+◌, ◌*◌, ◌/◌, ◌%◌, ◌^◌, ◌<◌, ◌≤◌, List, ◌++◌, length, get_or, Some, None, Option, sym, ap, ◌∙◌, subst, arith}
 use Rattle.std.proofs.lemmas.List.{get_or_append_left}
 use Rattle.saturation.specs.Bits.{Bit}
 use Rattle.saturation.specs.System.{Fine, Starts, TellsInside}
 use Rattle.saturation.proofs.Nodes.{half}
 use Rattle.ranking.specs.Calls.{Aligned, Grouped}
 use Rattle.ranking.specs.Ranks.{Ranked}
-use Rattle.program.specs.declared.programs.Header.{Header}
 use Rattle.program.specs.Program.{Prog}
 use Rattle.program.specs.Table.{total}
 use Rattle.program.specs.WellFormed.{Good}
@@ -16,29 +14,12 @@ use Rattle.program.proofs.Kept.{good}
 use Rattle.program.proofs.Sizes.{before_none}
 use Rattle.program.proofs.Proved.{at_most, endless}
 use Rattle.places.specs.Says.{Measured}
-use Rattle.expansion.specs.Programs.{Headed, Based}
-use Rattle.places.specs.declared.memory.Memory.{Memory}
-use Rattle.places.specs.Memory.{Divided}
-use Rattle.places.specs.Solutions.{Solution, Space, Lent, Rankable}
-use Rattle.places.proofs.Solved.{sites_cut}
+use Rattle.expansion.specs.Programs.{Headed}
+use Rattle.places.specs.declared.given.Program.{Program}
+use Rattle.places.specs.declared.settling.Saturated.{Saturated}
+use Rattle.places.specs.Settling.{Filled}
+use Rattle.places.specs.Solutions.{Solution}
 use Rattle.places.proofs.Bridge.{fine, starts_at, aligned, grouped, chain_from, chain_back}
-
--- the parts of the work memory are long enough to solve in
-pub roomy : {s : List ℕ} {h : Header} {work : List ℕ} {g : Prog} → Lent s h work g → (m : Memory) → Divided m h.table (length work) → {bases : List ℕ} → Based s h bases → (starts : List ℕ) → length g.procs < length starts → Space s h bases starts m.words.now m.sets.now m.marks.now m.sites.now g
-roomy e m d b starts l =
-    let n = e.headed.header.table in
-    record {
-      room = record {
-        headed = e.headed;
-        based = b;
-        words_long = omega (arith, d.words, n);
-        sets_long = omega (arith, d.sets, n);
-        marks_long = omega (arith, d.marks, n);
-        marks_short = omega (arith, d.marks, nodes_small e.headed);
-        sites_long = omega (arith, wanted e.headed _ refl, e.work_long, d.sites);
-      };
-      starts_long = l;
-    }
 
 -- the sets of entries stand first
 inside_front : (g : List ℕ) (k t root : ℕ) (w front back : List ℕ) → w ≡ front ++ back → 2 * t ≤ length front → TellsInside g k t root w → TellsInside g k t root front
@@ -48,67 +29,58 @@ inside_front g k t root w front back e long told n x h b =
     let same : get_or w i 0 ≡ get_or front i 0 = ap (λ z. get_or z i 0) e ∙ get_or_append_left front back 0 i (omega (arith, half x b)) in
     let o = told n x h b in ((λ q. o.0 (ap (λ z. z / 2 ^ (x % 32) % 2) same ∙ q)), (λ c. ap (λ z. z / 2 ^ (x % 32) % 2) (sym same) ∙ o.1 c))
 
--- what solving leaves can be ranked, with the call places cut to those that there are
-pub rankable : {s : List ℕ} {h : Header} {g : Prog} {bases starts w sites sets : List ℕ} {count : ℕ} → Headed s h g → Based s h bases → Solution g starts w sites count sets → (n : ℕ) → n ≡ count → length g.procs < length starts → length w ≡ 4 * h.table → length sets ≡ 4 * h.table → (level next : List ℕ) → length level ≡ 128 → length next ≡ 128 → Rankable s h bases starts w (take n sites) sets level next g
-rankable {g = g} r b x n e a c d level next i j = record {
-  headed = r;
-  begins = b g r;
-  solution = record { expanded = x.expanded; listed = sites_cut (good r.reads) n e x.listed; told = x.told };
-  starts_long = a;
-  words_long = omega (arith, r.header.table);
-  sets_long = omega (arith, r.header.table);
-  level_long = i;
-  next_long = j;
-}
-
-module _ {s : List ℕ} {h : Header} {bases starts w sites sets level next : List ℕ} {g : Prog} (x : Rankable s h bases starts w sites sets level next g) (k : ℕ) (ke : k ≡ 2 ^ h.shared) where
+module _ {p : Program} {r : Saturated} {g : Prog} (e : Headed p.bytes.now p.header g) (x : Filled p r) where
   abbrev K : ℕ
   K = 2 ^ g.shared
 
   abbrev T : ℕ
   T = total g.shared g.procs
 
+  abbrev w : List ℕ
+  w = r.system.graph.now
+
+  abbrev root : ℕ
+  root = get_or r.procedures.bases.now 0 0
+
   ok : Good g
-  ok = good x.headed.reads
+  ok = good e.reads
 
-  few : g.shared ≤ 6
-  few = x.headed.reads.few
+  solution : Solution g r.procedures.starts.now w r.system.sites.now (length r.system.sites.now) r.sets.now
+  solution = x.settled g e
 
-  -- with the header's numbers
-  moved : (P : ℕ → ℕ → Type 0) → P K T → P k h.table
-  moved P p = subst (λ z. P z h.table) (sym (ke ∙ ap (λ z. 2 ^ z) x.headed.header.shared)) (subst (P K) (sym x.headed.header.table) p)
+  shared_is : r.system.shared ≡ K
+  shared_is = x.shared ∙ ap (λ z. 2 ^ z) e.header.shared
 
-  root_is : get_or bases 0 0 ≡ 0
-  root_is = (x.begins 0 x.headed.reads.some).1 ∙ before_none g.shared g.procs
+  -- with the answer's numbers
+  moved : (P : ℕ → ℕ → Type 0) → P K T → P r.system.shared r.system.nodes
+  moved P p = subst (λ z. P z r.system.nodes) (sym shared_is) (subst (P K) (sym (x.nodes ∙ e.header.table)) p)
 
-  pub fine_here : Fine w k h.table
-  fine_here = moved (Fine w) (fine g starts w ok few x.solution.expanded x.words_long)
+  root_is : root ≡ 0
+  root_is = (x.based g e 0 e.reads.some).1 ∙ before_none g.shared g.procs
 
-  pub aligned_here : Aligned w k h.table
-  aligned_here = moved (Aligned w) (aligned g starts w ok few x.solution.expanded)
+  pub fine_here : Fine w r.system.shared r.system.nodes
+  fine_here = moved (Fine w) (fine g r.procedures.starts.now w ok e.reads.few solution.expanded (omega (arith, x.words_long, e.header.table)))
 
-  pub starts_here : Starts w k h.table (get_or bases 0 0)
-  starts_here = subst (Starts w k h.table) (sym root_is) (moved (λ a b. Starts w a b 0) (starts_at g starts w ok few x.solution.expanded))
+  pub aligned_here : Aligned w r.system.shared r.system.nodes
+  aligned_here = moved (Aligned w) (aligned g r.procedures.starts.now w ok e.reads.few solution.expanded)
 
-  pub grouped_here : Grouped w k h.table sites bases starts h.procs
+  pub starts_here : Starts w r.system.shared r.system.nodes root
+  starts_here = subst (Starts w r.system.shared r.system.nodes) (sym root_is) (moved (λ a b. Starts w a b 0) (starts_at g r.procedures.starts.now w ok e.reads.few solution.expanded))
+
+  pub grouped_here : Grouped w r.system.shared r.system.nodes r.system.sites.now r.procedures.bases.now r.procedures.starts.now
   grouped_here =
-      let n = x.headed.header.procs in
-      let long : (c : ℕ) → ((f : ℕ) → f < c → f < length bases) → c ≤ length bases = bounded in
-      moved (λ a b. Grouped w a b sites bases starts h.procs) (grouped g starts w ok few x.solution.expanded sites x.solution.listed bases h.procs n x.begins (long h.procs (λ f l. (x.begins f (omega arith)).0)) (omega (arith, x.starts_long)) (omega (arith, x.headed.reads.most)))
-    where
-      bounded : (c : ℕ) → ((f : ℕ) → f < c → f < length bases) → c ≤ length bases
-      bounded zero f = omega arith
-      bounded (suc c) f = let l = f c (omega arith) in omega arith
+      let n : length r.procedures.bases.now ≡ length g.procs = x.bases_long ∙ e.header.procs in
+      moved (λ a b. Grouped w a b r.system.sites.now r.procedures.bases.now r.procedures.starts.now) (grouped g r.procedures.starts.now w ok e.reads.few solution.expanded r.system.sites.now solution.listed r.procedures.bases.now n (x.based g e) (omega (arith, x.bases_long, x.starts_long)) (omega (arith, n, e.reads.most)))
 
-  pub told_here : (front back : List ℕ) → sets ≡ front ++ back → length front ≡ 2 * h.table → TellsInside w k h.table (get_or bases 0 0) front
-  told_here front back e l = inside_front w k h.table (get_or bases 0 0) sets front back e (omega arith) (subst (λ z. TellsInside w k h.table z sets) (sym root_is) (moved (λ a b. TellsInside w a b 0 sets) x.solution.told.inside))
+  pub told_here : (front back : List ℕ) → r.sets.now ≡ front ++ back → length front ≡ 2 * r.system.nodes → TellsInside w r.system.shared r.system.nodes root front
+  told_here front back q l = inside_front w r.system.shared r.system.nodes root r.sets.now front back q (omega arith) (subst (λ z. TellsInside w r.system.shared r.system.nodes z r.sets.now) (sym root_is) (moved (λ a b. TellsInside w a b 0 r.sets.now) solution.told.inside))
 
-  pub measured : (r : Option ℕ) → Ranked w k (get_or bases 0 0) r → Measured g r
-  measured r q = go r (subst (λ z. Ranked w z 0 r) (ke ∙ ap (λ z. 2 ^ z) x.headed.header.shared) (subst (λ z. Ranked w k z r) root_is q))
+  pub measured : (o : Option ℕ) → Ranked w r.system.shared root o → Measured g o
+  measured o q = go o (subst (λ z. Ranked w z 0 o) shared_is (subst (λ z. Ranked w r.system.shared z o) root_is q))
     where
       in_table : 0 < T
-      in_table = (starts_at g starts w ok few x.solution.expanded).within
+      in_table = (starts_at g r.procedures.starts.now w ok e.reads.few solution.expanded).within
 
-      go : (r : Option ℕ) → Ranked w K 0 r → Measured g r
-      go (Some d) p = at_most ok (chain_back g starts w ok few x.solution.expanded in_table p.0) (λ m c. p.1 m (chain_from g starts w ok few x.solution.expanded c))
-      go None p = endless ok (λ d. chain_back g starts w ok few x.solution.expanded in_table (p d))
+      go : (o : Option ℕ) → Ranked w K 0 o → Measured g o
+      go (Some d) p = at_most ok (chain_back g r.procedures.starts.now w ok e.reads.few solution.expanded in_table p.0) (λ m c. p.1 m (chain_from g r.procedures.starts.now w ok e.reads.few solution.expanded c))
+      go None p = endless ok (λ d. chain_back g r.procedures.starts.now w ok e.reads.few solution.expanded in_table (p d))

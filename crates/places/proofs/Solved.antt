@@ -1,20 +1,21 @@
 -- A node has entries exactly if its number is reached: the engine's answer, in words of numbers.
-use Rattle.std.proofs.Common.{◌≡◌, ℕ, ◌*◌, ◌%◌, ◌^◌, ◌<◌, ◌≤◌, ◌↔◌, List, length, take, sym, refl, ap, ◌∙◌, subst, arith, length-take, pow_mono}
-use Rattle.std.proofs.lemmas.List.{get_or-take}
+use Rattle.std.proofs.Common.{◌≡◌, ℕ, ◌*◌, ◌%◌, ◌^◌, ◌<◌, ◌≤◌, ◌↔◌, List, length, sym, refl, ap, ◌∙◌, subst, arith, pow_mono}
 use Rattle.std.proofs.lemmas.Nat.{pow_pos, mod_below}
 use Rattle.pushdown.specs.System as pushdown
 use Rattle.pushdown.proofs.Runs.{reached_is}
 use Rattle.saturation.specs.System.{Fine, Sited, Starts, Tells}
-use Rattle.program.specs.Program.{call, Prog}
+use Rattle.program.specs.Program.{Prog}
 use Rattle.program.specs.declared.programs.Header.{Header}
 use Rattle.program.specs.Table.{total}
 use Rattle.program.specs.Numbers.{numbered}
 use Rattle.program.specs.WellFormed.{Good}
-use Rattle.program.proofs.Kept.{good, ok_step}
+use Rattle.program.proofs.Kept.{good}
 use Rattle.expansion.specs.Words.{Upto}
 use Rattle.expansion.specs.Programs.{Headed, Expanded}
-use Rattle.expansion.specs.Sites.{CallPlace, SitesAre}
-use Rattle.places.specs.Solving.{Entries}
+use Rattle.expansion.specs.Sites.{SitesAre}
+use Rattle.expansion.specs.Listing.{SitesListed}
+use Rattle.places.specs.Solving.{Entries, Solved}
+use Rattle.places.specs.Solutions.{Settled}
 use Rattle.places.proofs.Bridge.{inside_from, inside_back, entered_from, entered_back, fine, sited, starts_at}
 
 module _ (g : Prog) (starts w : List ℕ) (ok : Good g) (few : g.shared ≤ 6) (u : Upto g starts w (total g.shared g.procs)) where
@@ -31,20 +32,6 @@ module _ (g : Prog) (starts w : List ℕ) (ok : Good g) (few : g.shared ≤ 6) (
         let small : r.0 % K < 64 = omega (arith, mod_below r.0 K (pow_pos g.shared), pow_mono {i = g.shared} {j = 6} few) in
         (r.0 % K, small, (t.inside n (r.0 % K) l small).1 (r.0, refl, entered_from g starts w ok few u r.1, inside_from g starts w ok few u r.2)),
   )
-
--- the call places that are used, cut out of the memory for them
-pub sites_cut : {g : Prog} → Good g → {starts sites : List ℕ} {count : ℕ} (n : ℕ) → n ≡ count → SitesAre g starts sites count → SitesAre g starts (take n sites) (length (take n sites))
-sites_cut {g} w {starts} {sites} {count} n e si =
-    let long : length (take n sites) ≡ count = simp length-take (omega (arith, si.within)) in
-    record {
-      within = omega arith;
-      order = λ f l. ((si.order f l).0, omega (arith, (si.order f l).1, long));
-      each = λ s l. let x = si.each s (omega (arith, long)) in (x.0, subst (CallPlace g x.0) (sym (get_or-take n sites s 0 (omega (arith, long)))) x.1);
-      all = λ f p a d h i.
-          let x = si.all f p a d h i in
-          let m = si.order d (ok_step w f p a (call d) h i) in
-          (x.0, x.1, x.2, get_or-take n sites x.0 0 (omega (arith, x.2, m.1)) ∙ x.3);
-    }
 
 -- what the engine asks, and what it tells, with the header's numbers
 module _ {s : List ℕ} {h : Header} (g : Prog) (r : Headed s h g) (starts w : List ℕ) (x : Expanded s h starts w) (k : ℕ) (ke : k ≡ 2 ^ h.shared) where
@@ -63,5 +50,10 @@ module _ {s : List ℕ} {h : Header} (g : Prog) (r : Headed s h g) (starts w : L
   pub told_at : (sets : List ℕ) → Tells w k h.table 0 sets → Tells w (2 ^ g.shared) (total g.shared g.procs) 0 sets
   told_at sets t = subst (λ z. Tells w (2 ^ g.shared) z 0 sets) r.header.table (subst (λ z. Tells w z h.table 0 sets) shared_is t)
 
-  pub solved_at : (sets : List ℕ) → Tells w k h.table 0 sets → (n : ℕ) → n < total g.shared g.procs → Entries sets n ↔ ((bs : List ℕ) × pushdown.Reached (numbered g) 0 n bs)
-  solved_at sets t = solved g starts w (good r.reads) r.reads.few (x g r) sets (told_at sets t)
+-- all that settling leaves, from what each of its calls does
+pub settled_by : {s : List ℕ} {h : Header} {starts w sites sets : List ℕ} {k : ℕ} → Expanded s h starts w → k ≡ 2 ^ h.shared → SitesListed s h starts sites (length sites) → Tells w k h.table 0 sets → Settled s h starts w sites (length sites) sets
+settled_by x ke l t = λ g r. record { expanded = x g r; listed = l g r; told = told_at g r _ _ x _ ke _ t }
+
+-- what settling leaves tells which numbers are reached
+pub solved_by : {s : List ℕ} {h : Header} {starts w sites sets : List ℕ} {count : ℕ} → Settled s h starts w sites count sets → Solved s h sets
+solved_by x = λ g e. let y = x g e in solved g _ _ (good e.reads) e.reads.few y.expanded _ y.told

@@ -16,7 +16,7 @@ use Rattle.expansion.specs.Sites.{steps}
 use Rattle.program.proofs.Sizes.{before_none, before_next, before_le}
 use Rattle.expansion.proofs.Walking.{small}
 use Rattle.places.specs.Says.{Table}
-use Rattle.places.specs.Solving.{Tells, Written, Solved, Parts, Enough}
+use Rattle.places.specs.Solving.{Tells, Written, Solved, Parts}
 
 -- there are few steps: no more than bytes of the table, and 255 for each procedure
 steps_total : (k : ℕ) (ps : List Proc) → steps ps ≤ total k ps
@@ -40,28 +40,20 @@ module _ {s : List ℕ} {h : Header} {g : Prog} (r : Headed s h g) where
   pub nodes_small : h.table ≤ 67108864
   nodes_small = omega (arith, r.header.table, small r)
 
-module _ {s : List ℕ} {h : Header} {table work : List ℕ} {g : Prog} (e : Enough s h table work g) where
-  pub room : (t : ℕ) → t ≡ h.table → 4 * t + (4 * t + (33 * (t / 1024 + 1) + steps g.procs)) ≤ length work
-  room t i = omega (arith, wanted e.headed t i, e.work_long)
-
-  pub parts : (bases : List ℕ) → Based s h bases → Parts bases h.procs (length table)
-  parts bases b =
-      let r = e.headed in
+  -- the parts of the table begin where its procedures do
+  pub parts : (bases table : List ℕ) → length bases ≡ h.procs → length table ≡ h.table → Based s h bases → Parts bases (length bases) (length table)
+  parts bases table long whole b =
       let n = r.header.procs in
-      let at : (f : ℕ) → f < h.procs → get_or bases f 0 ≡ before g.shared g.procs f = λ f l. (b g r f (omega arith)).1 in
+      let at : (f : ℕ) → f < length bases → get_or bases f 0 ≡ before g.shared g.procs f = λ f l. (b g r f (omega arith)).1 in
       record {
         some = omega (arith, r.reads.some);
-        listed = count h.procs (λ f l. (b g r f (omega arith)).0);
+        listed = omega arith;
         first = at 0 (omega (arith, r.reads.some)) ∙ before_none g.shared g.procs;
         order = λ f l.
             let q = nth_some g.procs f (omega arith) in
             omega (arith, at f (omega arith), at (f + 1) l, before_next g.shared g.procs f q.0 q.1);
-        last = λ f l. omega (arith, at f l, before_le g.shared g.procs f, e.table_long);
+        last = λ f l. omega (arith, at f l, before_le g.shared g.procs f, whole, r.header.table);
       }
-    where
-      count : (c : ℕ) → ((f : ℕ) → f < c → f < length bases) → c ≤ length bases
-      count zero f = omega arith
-      count (suc c) f = let x = f c (omega arith) in omega arith
 
 nth_get_or : (t : List ℕ) (i : ℕ) → i < length t → nth t i ≡ some (get_or t i 0)
 nth_get_or [] i l = absurd (omega arith)

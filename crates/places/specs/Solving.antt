@@ -1,14 +1,12 @@
 -- What is left in the work memory.
-use Rattle.std.specs.Prelude.{◌≡◌, ℕ, ◌+◌, ◌*◌, ◌^◌, ◌<◌, ◌≤◌, ◌⊎◌, ◌↔◌, List, length, slice_index, slice_index_or}
+use Rattle.std.specs.Prelude.{◌≡◌, ℕ, ◌+◌, ◌<◌, ◌≤◌, ◌⊎◌, ◌↔◌, List, length, slice_index, slice_index_or}
 use Rattle.pushdown.specs.System as pushdown
 use Rattle.saturation.specs.Bits.{On}
 use Rattle.program.specs.declared.programs.Header.{Header}
 use Rattle.program.specs.Program.{Prog}
-use Rattle.program.specs.Table.{total, wants}
+use Rattle.program.specs.Table.{total}
 use Rattle.program.specs.Numbers.{numbered}
-use Rattle.expansion.specs.Programs.{Headed, Based}
-use Rattle.expansion.specs.Sites.{steps}
-use Rattle.saturation.specs.Marks.{base}
+use Rattle.expansion.specs.Programs.{Headed}
 
 -- some entry is in the set of node n
 abbrev pub Entries : List ℕ → ℕ → Type 0
@@ -33,19 +31,3 @@ pub record Parts (bases : List ℕ) (count end : ℕ) : Type 0 where
   pub first : slice_index_or bases 0 0 ≡ 0
   pub order : (f : ℕ) → f + 1 < count → slice_index bases f ≤ slice_index bases (f + 1)
   pub last : (f : ℕ) → f < count → slice_index bases f ≤ end
-
--- the bytes are g, the list says where its procedures begin, and the parts of the work memory are long enough
-pub record Room (s : List ℕ) (h : Header) (bases words sets marks sites : List ℕ) (g : Prog) : Type 0 where
-  pub headed : Headed s h g
-  pub based : Based s h bases
-  pub words_long : length words ≡ 4 * total g.shared g.procs
-  pub sets_long : 4 * total g.shared g.procs ≤ length sets
-  pub marks_long : total g.shared g.procs ≤ base marks
-  pub marks_short : length marks < 2 ^ 40
-  pub sites_long : steps g.procs ≤ length sites
-
--- the bytes are g, the table's memory is as long as its table, and there are enough work words
-pub record Enough (s : List ℕ) (h : Header) (table work : List ℕ) (g : Prog) : Type 0 where
-  pub headed : Headed s h g
-  pub table_long : length table ≡ total g.shared g.procs
-  pub work_long : wants g ≤ length work

@@ -7,16 +7,18 @@ ghost use Rattle.std.specs.Prelude.{length};
 ghost use Rattle.places.specs.Says.{KnownPost, DeepPost};
 ghost use Rattle.places.specs.Example.{Worked};
 
+use accepting::{Refused, accept};
 use measuring::measure;
-use program::programs::read;
 use solving::tell;
 
+mod accepting;
+mod given;
 mod measuring;
 mod memory;
 mod settling;
 mod solving;
 
-// What `know` answers.
+// What `know` answers. The users' interface asks for this enum by name, so it is no `Result`.
 #[derive(Clone, Copy, PartialEq, Debug)]
 pub enum Known {
     Told,
@@ -32,21 +34,22 @@ pub enum Known {
 pub fn know(program: &[u8], table: &mut [u8], work: &mut [u32]) -> Known
     ensures { KnownPost program.now table.old table.new (length work.old) result }
 {
-    let Ok(header) = read(program) else {
-        return Known::NoProgram;
-    };
-    if work.len() < header.work {
-        return Known::Few;
+    match accept(program, work.len()) {
+        Err(Refused::NoProgram) => Known::NoProgram,
+        Err(Refused::FewWords) => Known::Few,
+        Ok(read) => {
+            let bytes = read.header.table;
+            if table.len() < bytes {
+                return Known::OutFull;
+            }
+            tell(read, &mut table[..bytes], work);
+            Known::Told
+        }
     }
-    let bytes = header.table;
-    if table.len() < bytes {
-        return Known::OutFull;
-    }
-    tell(program, header, &mut table[..bytes], work);
-    Known::Told
 }
 
-// How many procedures can wait for the return of another at once; the one at work is not counted.
+// How many procedures can wait for the return of another at once; the one at work is not counted. The users' interface
+// asks for this enum by name, so it is no `Result`.
 #[derive(Clone, Copy, PartialEq, Debug)]
 pub enum Deep {
     AtMost(u64),
@@ -61,15 +64,13 @@ pub enum Deep {
 pub fn depth(program: &[u8], work: &mut [u32]) -> Deep
     ensures { DeepPost program.now (length work.old) result }
 {
-    let Ok(header) = read(program) else {
-        return Deep::Unread;
-    };
-    if header.work > work.len() {
-        return Deep::Short;
-    }
-    match measure(program, header, work) {
-        Some(most) => Deep::AtMost(most),
-        None => Deep::Endless,
+    match accept(program, work.len()) {
+        Err(Refused::NoProgram) => Deep::Unread,
+        Err(Refused::FewWords) => Deep::Short,
+        Ok(read) => match measure(read, work) {
+            Some(most) => Deep::AtMost(most),
+            None => Deep::Endless,
+        },
     }
 }
 

@@ -1,37 +1,76 @@
 // Solving a program, for the table and for the depth: its words, its call places and its sets, in lent words.
-ghost use Rattle.std.specs.Prelude.{length};
-ghost use Rattle.program.specs.Program.{Prog};
-ghost use Rattle.places.specs.Solutions.{Space, Settled};
+ghost use Rattle.std.specs.Prelude.{◌<◌, ◌≤◌, length};
+ghost use Rattle.places.specs.Settling.{Filled};
+ghost use Rattle.places.specs.Solving.{Solved};
 
-use expansion::programs::expand;
+use crate::given::Program;
+use crate::memory::{Memory, divide};
+use expansion::programs::{expand, list_bases};
 use expansion::sites::list_sites;
-use program::procedures::values;
-use program::programs::Header;
+use expansion::source::Source;
+use program::programs::MOST_PROCEDURES;
+use ranking::Procedures;
 use saturation::{System, saturate};
 
-// Solves a program: expands it into `words`, lists its call places in `sites` and which are whose in `starts`, and
-// fills `sets`. Says how many call places there are. The work memory may hold anything before.
-pub fn settle(
-    program: &[u8],
-    header: Header,
-    bases: &[u32],
-    starts: &mut [u32],
-    words: &mut [u32],
-    sets: &mut [u32],
-    marks: &mut [u32],
-    sites: &mut [u32],
-) -> usize
-    requires { (g : Prog) × Space program.now header bases.now starts.old words.old sets.old marks.old sites.old g }
-    ensures { Settled program.now header starts.new words.new sites.new result sets.new }
+// The most words that say where the call places of the procedures begin, and where the last ones end.
+pub const MOST_STARTS: usize = MOST_PROCEDURES + 1;
+
+// A solved program: its nodes and call places, its procedures, and the sets of entries and of returns of its nodes;
+// and room for two sets of entries of its procedures.
+#[derive(Drop)]
+pub struct Saturated<'w> {
+    pub system: System<'w, 'w>,
+    pub procedures: Procedures<'w, 'w>,
+    pub sets: &'w mut [u32],
+    pub level: &'w mut [u32],
+    pub next: &'w mut [u32],
+}
+
+// Solves a program, in as many work words as it wants; `bases` has a word for each procedure, and `starts` one more.
+// The memory may hold anything before.
+pub fn settle<'w>(
+    program: Program,
+    bases: &'w mut [u32],
+    starts: &'w mut [u32],
+    work: &'w mut [u32],
+) -> Saturated<'w>
+    requires room { program.header.work ≤ length work.old }
+    requires bases { program.header.procs ≤ length bases.old }
+    requires starts { program.header.procs < length starts.old }
+    ensures filled { Filled program.entry result }
+    ensures solved { Solved program.entry.bytes.now program.entry.header result.sets.now }
 {
-    let count = list_sites(program, header, bases, starts, sites);
-    expand(program, header, bases, starts, words);
+    let Program { bytes, header } = program;
+    let Memory {
+        words,
+        sets,
+        marks,
+        level,
+        next,
+        sites,
+    } = divide(work, header.table);
+    let bases = &mut bases[..header.procs];
+    let starts = &mut starts[..=header.procs];
+    list_bases(bytes, header, bases);
+    let source = Source {
+        bytes,
+        header,
+        bases,
+    };
+    let listed = list_sites(source, starts, sites);
+    expand(source, starts, words);
     let system = System {
         graph: words,
-        sites: &sites[0..count],
-        shared: values(header.shared),
+        sites: listed,
+        shared: header.shared_values(),
         nodes: header.table,
     };
     saturate(system, sets, marks, 0);
-    count
+    Saturated {
+        system,
+        procedures: Procedures { bases, starts },
+        sets,
+        level,
+        next,
+    }
 }

@@ -24,137 +24,116 @@ fn ask(heap: Global, program: &[u8], bytes: usize, words: usize) -> Result<Outco
 }
 
 // Bytes below 16, a hexadecimal digit each.
-fn digits(heap: Global, text: &str) -> Result<Vec<u8>, AllocError> {
+fn digits(heap: Global, text: &str) -> Result<Vec<u8>, Fail> {
     let mut bytes = Vec::new(heap);
-    for digit in text.bytes() {
-        bytes.push(match digit {
-            b'0'..=b'9' => digit - b'0',
-            b'a'..=b'f' => digit - b'a' + 10,
-            _ => 255,
-        })?;
+    for digit in text.chars() {
+        let byte = digit.to_digit(16).ok_or("no digit")?;
+        bytes.push(u8::try_from(byte)?)?;
     }
     Ok(bytes)
 }
 
-// The program's table is as expected, and what is behind it as it was.
-fn told(rt: &impl Abort, heap: Global, text: &str, expected: &str) -> Result<(), Fail> {
+// The outcome for a program that is lent just as many words as it wants, and so many bytes more.
+fn ask_with(heap: Global, text: &str, rest: usize) -> Result<Outcome, Fail> {
     let program = digits(heap, text)?;
-    let Ok(header) = read(&program) else {
-        return Err(Fail::new("no program"));
-    };
-    let outcome = ask(heap, &program, header.table.saturating_add(3), header.work)?;
-    assert_eq!(rt; outcome.known, Known::Told);
-    assert_eq!(rt;
-        outcome.table.as_slice(),
-        digits(heap, expected)?.as_slice()
-    );
-    Ok(())
+    let header = read(&program)?;
+    Ok(ask(
+        heap,
+        &program,
+        header.table.saturating_add(rest),
+        header.work,
+    )?)
 }
 
 const RING: &'static str = "10131141123113100210";
 
+// A counter of calls in four shared variables, and a note, which is a variable of the procedure's own.
+const THIRTEEN: &'static str =
+    "401312f03232313231231110232133123111002232312231110232123111001232311210232111000210040152815312f33313123211102140420032323132321232112102321332123211210022323122321121023212321121001232311221023211210002104";
+
 #[test]
 fn worked_programs(rt: HostRuntime) -> Result<(), Fail> {
     let heap = rt.alloc();
-    // a procedure that calls itself or not, and turns the shared variable over on the way back: at place 3
-    // with its own variable yes the shared one is always no
-    told(&rt, heap, RING, "101110001010100011101101999")?;
-    // the same with the call taken out
-    told(
-        &rt,
-        heap,
-        "101311411231123000210",
-        "100110001010100010100101999",
-    )?;
-    // a procedure that calls itself and nothing else: behind the call nothing is reached
-    told(&rt, heap, "00130", "10999")?;
-    // two that call each other while the shared variable is no, and set it before
-    told(
-        &rt,
-        heap,
-        "101310323100003203231000031",
-        "10011010010101000001999",
-    )?;
-    // a return at the first place, with none waiting
-    told(&rt, heap, "0014", "10999")?;
-    // a procedure that nobody calls
-    told(&rt, heap, "000014", "100999")
-}
-
-// How many values there are with which the place behind the last step is reached.
-fn at_end(rt: &impl Abort, heap: Global, text: &str, from: usize) -> Result<usize, Fail> {
-    let program = digits(heap, text)?;
-    let Ok(header) = read(&program) else {
-        return Err(Fail::new("no program"));
-    };
-    let outcome = ask(heap, &program, header.table, header.work)?;
-    assert_eq!(rt; outcome.known, Known::Told);
-    let mut found: usize = 0;
-    for byte in outcome.table.iter().skip(from) {
-        found = found.saturating_add(usize::from(*byte));
+    // a program, its table, and three bytes as they were
+    let cases = [
+        // a procedure that calls itself or not, and turns the shared variable over on the way back: at place 3
+        // with its own variable yes the shared one is always no
+        (RING, "101110001010100011101101999"),
+        // the same with the call taken out
+        ("101311411231123000210", "100110001010100010100101999"),
+        // a procedure that calls itself and nothing else: behind the call nothing is reached
+        ("00130", "10999"),
+        // two that call each other while the shared variable is no, and set it before
+        ("101310323100003203231000031", "10011010010101000001999"),
+        // a return at the first place, with none waiting
+        ("0014", "10999"),
+        // a procedure that nobody calls
+        ("000014", "100999"),
+    ];
+    for (text, expected) in cases {
+        let outcome = ask_with(heap, text, 3)?;
+        assert_eq!(rt; outcome.known, Known::Told);
+        assert_eq!(rt;
+            outcome.table.as_slice(),
+            digits(heap, expected)?.as_slice()
+        );
     }
-    Ok(found)
+    Ok(())
 }
 
-// A counter of calls in four shared variables; behind the last step at count 13 if a note is no longer what
-// it was before the call. It is a variable of the procedure's own, which comes back, or a shared one.
+// Behind the last step at count 13, whose bytes stand last, if the note is no longer what it was before the call:
+// it comes back where it is the procedure's own, and not where it is shared.
 #[test]
 fn thirteen_deep(rt: HostRuntime) -> Result<(), Fail> {
-    let own =
-        "401312f03232313231231110232133123111002232312231110232123111001232311210232111000210040152815312f33313123211102140420032323132321232112102321332123211210022323122321121023212321121001232311221023211210002104";
-    assert_eq!(rt; at_end(&rt, rt.alloc(), own, 992)?, 0);
-    let shared =
-        "501311f03232313231231110232133123111002232312231110232123111001232311210232111000210040152815312f33313123211102140420032323132321232112102321332123211210022323122321121023212321121001232311221023211210002104";
-    assert_eq!(rt; at_end(&rt, rt.alloc(), shared, 1024)?, 1);
+    let cases = [
+        (THIRTEEN, 992, 0),
+        (
+            "501311f03232313231231110232133123111002232312231110232123111001232311210232111000210040152815312f33313123211102140420032323132321232112102321332123211210022323122321121023212321121001232311221023211210002104",
+            1024,
+            1,
+        ),
+    ];
+    for (text, from, expected) in cases {
+        let outcome = ask_with(rt.alloc(), text, 0)?;
+        assert_eq!(rt; outcome.known, Known::Told);
+        let reached = outcome.table.iter().skip(from).filter(|byte| **byte == 1);
+        assert_eq!(rt; reached.count(), expected);
+    }
     Ok(())
 }
 
 // A call that refuses leaves the lent table as it was.
-fn refused(
-    rt: &impl Abort,
-    heap: Global,
-    text: &str,
-    bytes: usize,
-    words: usize,
-    expected: Known,
-) -> Result<(), Fail> {
-    let outcome = ask(heap, &digits(heap, text)?, bytes, words)?;
-    assert_eq!(rt; outcome.known, expected);
-    for byte in outcome.table.iter() {
-        assert_eq!(rt; *byte, REST);
-    }
-    Ok(())
-}
-
 #[test]
 fn refusals(rt: HostRuntime) -> Result<(), Fail> {
     let heap = rt.alloc();
-    // the ring wants 24 bytes and 4336 words
-    refused(&rt, heap, RING, 24, 4335, Known::Few)?;
-    refused(&rt, heap, RING, 23, 4335, Known::Few)?;
-    refused(&rt, heap, RING, 23, 4336, Known::OutFull)?;
+    let cases = [
+        // the ring wants 24 bytes and 4336 words
+        (RING, 24, 4335, Known::Few),
+        (RING, 23, 4335, Known::Few),
+        (RING, 23, 4336, Known::OutFull),
+        ("0015", 24, 4336, Known::NoProgram),
+        ("0015", 0, 0, Known::NoProgram),
+        ("", 5, 5, Known::NoProgram),
+    ];
+    for (text, bytes, words, expected) in cases {
+        let outcome = ask(heap, &digits(heap, text)?, bytes, words)?;
+        assert_eq!(rt; outcome.known, expected);
+        assert!(rt; outcome.table.iter().all(|byte| *byte == REST));
+    }
     assert_eq!(rt;
         ask(heap, &digits(heap, RING)?, 24, 4336)?.known,
         Known::Told
     );
-    refused(&rt, heap, "0015", 24, 4336, Known::NoProgram)?;
-    refused(&rt, heap, "0015", 0, 0, Known::NoProgram)?;
-    refused(&rt, heap, "", 5, 5, Known::NoProgram)
+    Ok(())
 }
 
 // What is told of the depth of a program that is lent just as many words as it wants, all of them ones.
 fn deep(rt: &impl Abort, heap: Global, program: &[u8], expected: Deep) -> Result<(), Fail> {
-    let Ok(header) = read(program) else {
-        return Err(Fail::new("no program"));
-    };
+    let header = read(program)?;
     let mut work = vec![in heap; 0xffff_ffffu32; header.work]?;
     assert_eq!(rt; depth(program, &mut work), expected);
     Ok(())
 }
-
-// The text of `thirteen_deep` in which the note is a variable of the procedure's own.
-const THIRTEEN: &'static str =
-    "401312f03232313231231110232133123111002232312231110232123111001232311210232111000210040152815312f33313123211102140420032323132321232112102321332123211210022323122321121023212321121001232311221023211210002104";
 
 #[test]
 fn depths(rt: HostRuntime) -> Result<(), Fail> {
@@ -193,16 +172,11 @@ fn depths(rt: HostRuntime) -> Result<(), Fail> {
 // 64 procedures that each call the next.
 #[test]
 fn chain(rt: HostRuntime) -> Result<(), Fail> {
-    let mut bytes = Vec::new(rt.alloc());
-    bytes.push(0)?;
+    let mut bytes = vec![in rt.alloc(); 0]?;
     for callee in 1..64u8 {
-        for byte in [0, 1, 3, callee] {
-            bytes.push(byte)?;
-        }
+        bytes.extend_from_slice(&[0, 1, 3, callee])?;
     }
-    for _last in 0..2 {
-        bytes.push(0)?;
-    }
+    bytes.extend_from_slice(&[0, 0])?;
     deep(&rt, rt.alloc(), &bytes, Deep::AtMost(63))
 }
 

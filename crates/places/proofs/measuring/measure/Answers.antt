@@ -1,22 +1,35 @@
--- `measure`: the parts of the work memory are long enough, and what solving leaves in them can be ranked.
-use Rattle.std.proofs.Common.{refl, arith}
-use Rattle.places.proofs.Ranking.{roomy, rankable}
-use Rattle.places.proofs.Telling.{wanted}
+-- `measure`: what ranking asks of the words of a solved program, and what it tells.
+use Rattle.std.proofs.Common.{arith}
+use Rattle.program.proofs.Proved.{laws}
+use Rattle.places.proofs.Reading.{read_one}
+use Rattle.places.proofs.Ranking.{fine_here, aligned_here, grouped_here, starts_here, told_here, measured}
 use Rattle.places.proofs.measuring.measure.Goals as goal
 
-pub divide-words-requires : goal.divide-words-requires
-divide-words-requires c = omega (arith, wanted c.requires.1.headed _ refl, c.requires.1.work_long)
+pub rank-requires-clause-known : goal.rank-requires-clause-known
+rank-requires-clause-known c =
+    let read = read_one c.args.program.read in
+    let e = read.1 in
+    let x = c.settle-sets.ensures.filled in
+    let small = laws.small_table _ read.0 e.reads in
+    let parts = c.split_at_mut-entries.ensures in
+    record {
+      countable = record { fine = fine_here e x; aligned = aligned_here e x; small = omega (arith, x.nodes, e.header.table, small); sets_long = omega (arith, parts.front_len); counts_long = omega (arith, parts.back_len, x.sets_long, x.nodes) };
+      grouped = grouped_here e x;
+      next_long = omega (arith, x.next_long, x.bases_long, e.header.procs, e.reads.most);
+    }
 
-pub settle-count-requires : goal.settle-count-requires
-settle-count-requires c = (c.requires.0, roomy c.requires.1 c.divide-words.result c.divide-words.ensures c.list_bases.ensures _ (omega (arith, c.requires.1.headed.reads.most)))
+pub rank-requires-clause-short : goal.rank-requires-clause-short
+rank-requires-clause-short c =
+    let read = read_one c.args.program.read in
+    omega (arith, c.split_at_mut-entries.ensures.front_len, c.settle-sets.ensures.filled.nodes, read.1.header.table, laws.small_table _ read.0 read.1.reads)
 
-pub deepest-requires : goal.deepest-requires
-deepest-requires c =
-    let e = c.requires.1 in
-    let m = c.divide-words.ensures in
-    (c.args.program.now, c.requires.0, rankable e.headed c.list_bases.ensures (c.settle-count.ensures c.requires.0 e.headed) _ (omega arith) (omega (arith, e.headed.reads.most, c.settle-count.auto.starts)) (omega (arith, m.words, c.settle-count.auto.words)) (omega (arith, m.sets, c.settle-count.auto.sets)) _ _ m.level m.next)
+pub rank-requires-clause-starts : goal.rank-requires-clause-starts
+rank-requires-clause-starts c = starts_here (read_one c.args.program.read).1 c.settle-sets.ensures.filled
+
+pub rank-requires-clause-told : goal.rank-requires-clause-told
+rank-requires-clause-told c =
+    let parts = c.split_at_mut-entries.ensures in
+    told_here (read_one c.args.program.read).1 c.settle-sets.ensures.filled _ _ parts.value parts.front_len
 
 pub returns : goal.returns
-returns c = λ g r.
-    let m = c.divide-words.ensures in
-    c.deepest.ensures c.args.program.now g (rankable r c.list_bases.ensures (c.settle-count.ensures g r) _ (omega arith) (omega (arith, r.reads.most, c.settle-count.auto.starts)) (omega (arith, m.words, c.settle-count.auto.words)) (omega (arith, m.sets, c.settle-count.auto.sets)) _ _ m.level m.next)
+returns c = λ g e. measured e c.settle-sets.ensures.filled _ c.rank.ensures

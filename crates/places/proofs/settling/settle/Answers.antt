@@ -1,28 +1,63 @@
-use Rattle.std.proofs.Common.{arith}
-use Rattle.program.proofs.Kept.{good}
-use Rattle.places.proofs.Solved.{sites_cut, fine_at, sited_at, starts_root, told_at}
+use Rattle.std.proofs.Common.{◌≡◌, ◌+◌, length, refl, ◌∙◌, arith, length-take}
+use Rattle.places.proofs.Reading.{read_one}
+use Rattle.places.proofs.Telling.{wanted, nodes_small}
+use Rattle.places.proofs.Solved.{fine_at, sited_at, starts_root, settled_by, solved_by}
 use Rattle.places.proofs.settling.settle.Goals as goal
 
-pub list_sites-count-requires : goal.list_sites-count-requires
-list_sites-count-requires c =
-    let g = c.requires.0 in
-    let r = c.requires.1 in
-    (g, record { headed = r.room.headed; begins = r.room.based g r.room.headed }, r.starts_long, r.room.sites_long)
+pub divide-words-requires : goal.divide-words-requires
+divide-words-requires c = let e = (read_one c.args.program.read).1 in omega (arith, wanted e _ refl, e.header.work, c.requires.room)
+
+pub list_bases-requires : goal.list_bases-requires
+list_bases-requires c = let r = read_one c.args.program.read in (r.0, r.1, simp length-take (omega (arith, c.requires.bases, r.1.header.procs)))
+
+pub list_sites-listed-requires : goal.list_sites-listed-requires
+list_sites-listed-requires c =
+    let r = read_one c.args.program.read in
+    let e = r.1 in
+    (r.0, record { headed = e; begins = c.list_bases.ensures r.0 e }, simp length-take (omega (arith, c.requires.starts, e.header.procs)), omega (arith, wanted e _ refl, e.header.work, c.requires.room, c.divide-words.ensures.sites))
+
+pub expand-requires : goal.expand-requires
+expand-requires c =
+    let r = read_one c.args.program.read in
+    let e = r.1 in
+    let long : length c.list_sites-listed.new.starts ≡ c.args.program.header.procs + 1 = c.list_sites-listed.auto.starts ∙ simp length-take (omega (arith, c.requires.starts)) in
+    (r.0, record { headed = e; begins = c.list_bases.ensures r.0 e }, omega (arith, long, e.header.procs), omega (arith, c.divide-words.ensures.words, e.header.table))
+
+pub shared_values-requires : goal.shared_values-requires
+shared_values-requires c = let r = read_one c.args.program.read in omega (arith, r.1.reads.few, r.1.header.shared)
 
 pub saturate-requires : goal.saturate-requires
 saturate-requires c =
-    let g = c.requires.0 in
-    let r = c.requires.1.room in
+    let r = read_one c.args.program.read in
+    let g = r.0 in
+    let e = r.1 in
+    let d = c.divide-words.ensures in
     record {
       ready = record {
-        fine = fine_at g r.headed _ _ c.expand.ensures _ c.values.ensures (omega (arith, r.words_long));
-        sited = sited_at g r.headed _ _ c.expand.ensures _ c.values.ensures _ (sites_cut (good r.headed.reads) _ (omega arith) (c.list_sites-count.ensures g r.headed));
-        long = omega (arith, r.sets_long, r.headed.header.table);
-        wide = omega (arith, r.marks_long, r.headed.header.table);
-        short = r.marks_short;
+        fine = fine_at g e _ _ c.expand.ensures _ c.shared_values.ensures (omega (arith, d.words, e.header.table));
+        sited = sited_at g e _ _ c.expand.ensures _ c.shared_values.ensures _ (c.list_sites-listed.ensures g e);
+        long = omega (arith, d.sets);
+        wide = omega (arith, d.marks);
+        short = omega (arith, d.marks, nodes_small e);
       };
-      starts = starts_root g r.headed _ _ c.expand.ensures _ c.values.ensures;
+      starts = starts_root g e _ _ c.expand.ensures _ c.shared_values.ensures;
     }
 
-pub returns : goal.returns
-returns c = λ g h. record { expanded = c.expand.ensures g h; listed = c.list_sites-count.ensures g h; told = told_at g h _ _ c.expand.ensures _ c.values.ensures _ c.saturate.ensures }
+pub returns-clause-filled : goal.returns-clause-filled
+returns-clause-filled c =
+    let d = c.divide-words.ensures in
+    record {
+      based = c.list_bases.ensures;
+      settled = settled_by c.expand.ensures c.shared_values.ensures c.list_sites-listed.ensures c.saturate.ensures;
+      shared = c.shared_values.ensures;
+      nodes = refl;
+      bases_long = c.list_bases.auto.bases ∙ simp length-take (omega (arith, c.requires.bases));
+      starts_long = c.list_sites-listed.auto.starts ∙ simp length-take (omega (arith, c.requires.starts));
+      words_long = omega (arith, d.words, c.expand.auto.words);
+      sets_long = omega (arith, d.sets, c.saturate.auto.work);
+      level_long = d.level;
+      next_long = d.next;
+    }
+
+pub returns-clause-solved : goal.returns-clause-solved
+returns-clause-solved c = solved_by (returns-clause-filled c).settled
