@@ -1,18 +1,19 @@
 -- A node has entries exactly if its number is reached: the engine's answer, in words of numbers.
-use Rattle.std.proofs.Common.{◌≡◌, ℕ, ◌*◌, ◌%◌, ◌^◌, ◌<◌, ◌≤◌, ◌↔◌, List, length, sym, refl, ap, ◌∙◌, subst, arith, pow_mono}
+use Rattle.std.proofs.Common.{◌≡◌, ℕ, ◌*◌, ◌%◌, ◌^◌, ◌<◌, ◌≤◌, ◌↔◌, List, length, take, length-take, sym, refl, ap, ◌∙◌, subst, arith, pow_mono}
+use Rattle.std.proofs.lemmas.List.{get_or-take}
 use Rattle.std.proofs.lemmas.Nat.{pow_pos, mod_below}
 use Rattle.pushdown.specs.System as pushdown
 use Rattle.pushdown.proofs.Runs.{reached_is}
 use Rattle.saturation.specs.System.{Fine, Sited, Starts, Tells}
-use Rattle.program.specs.Program.{Prog}
+use Rattle.program.specs.Program.{call, Prog}
 use Rattle.program.specs.declared.programs.Header.{Header}
 use Rattle.program.specs.Table.{total}
 use Rattle.program.specs.Numbers.{numbered}
 use Rattle.program.specs.WellFormed.{Good}
-use Rattle.program.proofs.Kept.{good}
+use Rattle.program.proofs.Kept.{good, ok_step}
 use Rattle.expansion.specs.Words.{Upto}
 use Rattle.expansion.specs.Programs.{Headed, Expanded}
-use Rattle.expansion.specs.Sites.{SitesAre}
+use Rattle.expansion.specs.Sites.{CallPlace, SitesAre}
 use Rattle.expansion.specs.Listing.{SitesListed}
 use Rattle.places.specs.Solving.{Entries, Solved}
 use Rattle.places.specs.Solutions.{Settled}
@@ -32,6 +33,21 @@ module _ (g : Prog) (starts w : List ℕ) (ok : Good g) (few : g.shared ≤ 6) (
         let small : r.0 % K < 64 = omega (arith, mod_below r.0 K (pow_pos g.shared), pow_mono {i = g.shared} {j = 6} few) in
         (r.0 % K, small, (t.inside n (r.0 % K) l small).1 (r.0, refl, entered_from g starts w ok few u r.1, inside_from g starts w ok few u r.2)),
   )
+
+-- the part of the words that is filled is the list
+pub listed_cut : {s : List ℕ} {h : Header} {starts sites : List ℕ} {count : ℕ} → SitesListed s h starts sites count → SitesListed s h starts (take count sites) (length (take count sites))
+listed_cut {sites = sites} {count = count} l g r =
+    let si = l g r in
+    let long : length (take count sites) ≡ count = simp length-take (omega (arith, si.within)) in
+    record {
+      within = omega arith;
+      order = λ d o. ((si.order d o).0, omega (arith, (si.order d o).1, long));
+      each = λ i o. let x = si.each i (omega (arith, long)) in (x.0, subst (CallPlace g x.0) (sym (get_or-take count sites i 0 (omega (arith, long)))) x.1);
+      all = λ f p a d t c.
+          let x = si.all f p a d t c in
+          let m = si.order d (ok_step (good r.reads) f p a (call d) t c) in
+          (x.0, x.1, x.2, get_or-take count sites x.0 0 (omega (arith, x.2, m.1)) ∙ x.3);
+    }
 
 -- what the engine asks, and what it tells, with the header's numbers
 module _ {s : List ℕ} {h : Header} (g : Prog) (r : Headed s h g) (starts w : List ℕ) (x : Expanded s h starts w) (k : ℕ) (ke : k ≡ 2 ^ h.shared) where

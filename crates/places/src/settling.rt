@@ -57,11 +57,11 @@ pub fn settle<'w>(
         header,
         bases,
     };
-    let listed = list_sites(source, starts, sites);
+    let count = list_sites(source, starts, sites);
     expand(source, starts, words);
     let system = System {
         graph: words,
-        sites: listed,
+        sites: &sites[..count],
         shared: header.shared_values(),
         nodes: header.table,
     };
