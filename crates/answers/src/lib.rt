@@ -7,5 +7,6 @@ pub mod matches;
 pub mod questions;
 pub mod reached;
 pub mod replies;
+pub mod scopes;
 pub mod sources;
 pub mod surveys;
