@@ -7,6 +7,9 @@ pub mod matches;
 pub mod questions;
 pub mod reached;
 pub mod replies;
-pub mod scopes;
+mod scopes;
 pub mod sources;
 pub mod surveys;
+
+#[cfg(test)]
+mod tests;

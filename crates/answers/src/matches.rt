@@ -17,10 +17,10 @@ pub struct Pattern {
 
 impl Pattern {
     // The one that all values fit.
-    pub const ANY: Pattern = Pattern { mask: 0, want: 0 };
+    pub(crate) const ANY: Pattern = Pattern { mask: 0, want: 0 };
 
     // What it wants a variable to be, if it says.
-    pub fn value(self, variable: usize) -> Option<bool> {
+    pub(crate) fn value(self, variable: usize) -> Option<bool> {
         let bit = bit_of(variable);
         if self.mask & bit == 0 {
             None
@@ -30,7 +30,7 @@ impl Pattern {
     }
 
     // The same, with one more variable.
-    pub fn with(self, variable: usize, value: bool) -> Pattern {
+    pub(crate) fn with(self, variable: usize, value: bool) -> Pattern {
         let bit = bit_of(variable);
         Pattern {
             mask: self.mask | bit,
@@ -40,7 +40,7 @@ impl Pattern {
 }
 
 // The bit of a variable.
-pub fn bit_of(variable: usize) -> usize {
+pub(crate) fn bit_of(variable: usize) -> usize {
     if variable < 64 { 1 << variable } else { 0 }
 }
 
@@ -53,7 +53,7 @@ pub struct Matches {
 
 impl Matches {
     // Whether there are some.
-    pub fn any(&self) -> bool
+    pub(crate) fn any(&self) -> bool
         ensures yes { 0 < self.now.count → result ≡ true }
         ensures no { self.now.count ≡ 0 → result ≡ false }
     {

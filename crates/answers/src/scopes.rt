@@ -4,7 +4,7 @@ use text::names::{Names, ProcedureNames};
 
 // The names of a program, and those of one of its procedures.
 #[derive(Clone, Copy)]
-pub struct Scope<'n> {
+pub(crate) struct Scope<'n> {
     pub names: &'n Names,
     pub procedure: &'n ProcedureNames,
 }

@@ -18,7 +18,7 @@ pub struct Loaded {
 
 impl Loaded {
     // The bytes of memory that deciding it needs: its own, its table, and its work words.
-    pub fn memory(&self) -> usize {
+    pub(crate) fn memory(&self) -> usize {
         4 * self.header.work + self.header.table + self.bytes.len()
     }
 }
