@@ -10,6 +10,5 @@ pub mod replies;
 mod scopes;
 pub mod sources;
 pub mod surveys;
-
 #[cfg(test)]
 mod tests;

@@ -64,19 +64,51 @@ fn answers(rt: HostRuntime) -> Result<(), Fail> {
             "lock=1 held=0",
             "yes\nA run comes to place 3 of work (line 10) with lock=1 held=0.\n",
         ),
-        ("work", "", "\"work\" is no place; write PROCEDURE:LABEL or PROCEDURE:NUMBER."),
-        ("idle:0", "", "There is no procedure \"idle\"; there are main, work."),
-        ("work:9", "", "Procedure work has places 0 to 4, and no place 9."),
-        ("work:tap", "", "Procedure work has no label \"tap\"; it has last."),
+        (
+            "work",
+            "",
+            "\"work\" is no place; write PROCEDURE:LABEL or PROCEDURE:NUMBER.",
+        ),
+        (
+            "idle:0",
+            "",
+            "There is no procedure \"idle\"; there are main, work.",
+        ),
+        (
+            "work:9",
+            "",
+            "Procedure work has places 0 to 4, and no place 9.",
+        ),
+        (
+            "work:tap",
+            "",
+            "Procedure work has no label \"tap\"; it has last.",
+        ),
         (
             "main:tap",
             "",
             "Procedure main has no label \"tap\"; it has none, so name a place by its number.",
         ),
-        ("work:3", "a=1", "Procedure work has no variable \"a\"; it has lock, held."),
-        ("work:3", "held", "\"held\" gives no variable a value; write NAME=0 or NAME=1."),
-        ("work:3", "held=1 held=0", "The variable held is given twice."),
-        ("work:3", "held=2", "\"held=2\" gives held no value; write held=0 or held=1."),
+        (
+            "work:3",
+            "a=1",
+            "Procedure work has no variable \"a\"; it has lock, held.",
+        ),
+        (
+            "work:3",
+            "held",
+            "\"held\" gives no variable a value; write NAME=0 or NAME=1.",
+        ),
+        (
+            "work:3",
+            "held=1 held=0",
+            "The variable held is given twice.",
+        ),
+        (
+            "work:3",
+            "held=2",
+            "\"held=2\" gives held no value; write held=0 or held=1.",
+        ),
     ];
     for (place, words, expected) in cases {
         let outcome = answer(rt.alloc(), RING, place, words);
@@ -105,8 +137,8 @@ fn surveys(rt: HostRuntime) -> Result<(), Fail> {
             "shared variables: 1\nprocedures: 2\n  main: own variables 0, places 3, never reached 1\n  idle: own variables 0, places 1, never reached 1\nplaces: 4\nnever reached: 2\ncalls waiting at most: 0\nmain:1 line 4: a := 1;\nidle line 6: nobody calls it\n",
         ),
         (
-            "decl a; decl a;\nvoid p() begin b := 1; end\n",
-            "f: line 1, column 14: there is a variable \"a\" already\nf: line 2, column 16: no variable \"b\" here; did you mean \"a\"?",
+            "decl a; decl a;\nvoid p() begin zzzz := 1; end\n",
+            "f: line 1, column 14: there is a variable \"a\" already\nf: line 2, column 16: no variable \"zzzz\" here",
         ),
     ];
     for (text, expected) in cases {
