@@ -4,7 +4,6 @@ use mathlib.Core.Option.{some}
 use Rattle.std.proofs.lemmas.List.{get_or_push, get_or_append_left}
 use Rattle.std.proofs.lemmas.Bool.{cases_eq, cases_Bool}
 use Rattle.program.specs.Program.{nth, Proc, Prog}
-use Rattle.program.specs.Rows.{Reads}
 use Rattle.program.specs.Table.{before}
 use Rattle.report.specs.declared.queries.Part.{Part}
 use Rattle.report.specs.Queries.{Parted}
@@ -13,27 +12,25 @@ use Rattle.answers.specs.Deciding.{Holds}
 use Rattle.answers.specs.Looking.{Comes}
 use Rattle.answers.proofs.Looking.{within, comes}
 
--- procedure f is p, its bytes begin at the part's base, and a place has w of them
-pub record Located (g : Prog) (f : ℕ) (part : Part) (w : ℕ) : Type 0 where
+-- procedure f is p, its bytes begin at the part's base, and a place has as many as its width
+pub record Located (g : Prog) (f : ℕ) (part : Part) : Type 0 where
   pub p : Proc
   pub there : nth g.procs f ≡ some p
   pub steps : part.procedure.steps ≡ length p.steps
   pub base : part.base ≡ before g.shared g.procs f
-  pub width : w ≡ 2 ^ (g.shared + p.own)
+  pub width : part.width ≡ 2 ^ (g.shared + p.own)
 
-module _ {g : Prog} {d : Decided} (h : Holds g d) where
-  pub located : {f : ℕ} {part : Part} (s : List ℕ) (w : ℕ) → s ≡ vec_items d.bytes → Parted s d.header f part → w ≡ 2 ^ (d.header.shared + part.procedure.own) → Located g f part w
-  located s w e q is =
-      let r = subst (λ z. Reads z g) (sym e) h.reads in
-      let o = q.0 g r h.header in
-      let width : w ≡ 2 ^ (g.shared + o.p.own) = is ∙ λ i. 2 ^ (h.header.shared i + o.own i) in
-      record { p = o.p; there = o.there; steps = o.steps; base = o.base; width = width }
+module _ {g : Prog} (d : Decided) (h : Holds g d) where
+  pub located : {f : ℕ} {part : Part} → Parted (vec_items d.program.bytes) d.program.header f part → Located g f part
+  located q =
+      let o = q.0 g h.reads h.header in
+      record { p = o.p; there = o.there; steps = o.steps; base = o.base; width = o.width }
 
-  module _ {f : ℕ} {part : Part} {w : ℕ} (l : Located g f part w) (a : ℕ) (place : a ≤ length l.p.steps) (t : List ℕ) (e : t ≡ vec_items d.table) where
-    pub inside : part.base + (a * w + w) ≤ length t
-    inside = subst (λ z. part.base + (a * w + w) ≤ length z) (sym e) (subst (λ z. part.base + (a * z + z) ≤ length (vec_items d.table)) (sym l.width) (subst (λ z. z + (a * 2 ^ (g.shared + l.p.own) + 2 ^ (g.shared + l.p.own)) ≤ length (vec_items d.table)) (sym l.base) (within h.reads h.table f a l.p l.there place)))
+  module _ {f : ℕ} {part : Part} (l : Located g f part) (a : ℕ) (place : a ≤ length l.p.steps) (t : List ℕ) (e : t ≡ vec_items d.table) where
+    pub inside : part.base + (a * part.width + part.width) ≤ length t
+    inside = subst (λ z. part.base + (a * part.width + part.width) ≤ length z) (sym e) (subst (λ z. part.base + (a * z + z) ≤ length (vec_items d.table)) (sym l.width) (subst (λ z. z + (a * 2 ^ (g.shared + l.p.own) + 2 ^ (g.shared + l.p.own)) ≤ length (vec_items d.table)) (sym l.base) (within h.reads h.table f a l.p l.there place)))
 
-    pub told : (b : List ℕ) → b ≡ take w (drop (part.base + a * w) t) → (P : ℕ → Type 0) → ((v : ℕ) × (v < length b) × (get_or b v 0 ≡ 1) × P v) ↔ Comes g f a P
+    pub told : (b : List ℕ) → b ≡ take part.width (drop (part.base + a * part.width) t) → (P : ℕ → Type 0) → ((v : ℕ) × (v < length b) × (get_or b v 0 ≡ 1) × P v) ↔ Comes g f a P
     told b q P =
         let same : b ≡ take (2 ^ (g.shared + l.p.own)) (drop (before g.shared g.procs f + a * 2 ^ (g.shared + l.p.own)) (vec_items d.table)) = q ∙ λ i. take (l.width i) (drop (l.base i + a * l.width i) (e i)) in
         subst (λ z. ((v : ℕ) × (v < length z) × (get_or z v 0 ≡ 1) × P v) ↔ Comes g f a P) (sym same) (comes h.reads h.table f a l.p l.there place P)

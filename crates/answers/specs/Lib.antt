@@ -1,4 +1,5 @@
 -- What is answered.
+pub mod Holding
 pub mod Deciding
 pub mod Matching
 pub mod Looking

@@ -7,5 +7,8 @@ pub mod matches;
 pub mod questions;
 pub mod reached;
 pub mod replies;
+mod scopes;
 pub mod sources;
 pub mod surveys;
+#[cfg(test)]
+mod tests;

@@ -1,5 +1,5 @@
 // Which values of a place are reached, as its bytes of the table tell.
-ghost use Rattle.std.specs.Prelude.{◌≡◌, true, false, ◌≢◌, bit_and};
+ghost use Rattle.std.specs.Prelude.{◌≡◌, ◌<◌, true, false, ◌≢◌, bit_and};
 ghost use Rattle.answers.specs.Matching.{SomeOne, Matched};
 
 use std::alloc::{AllocFailed, Global};
@@ -7,18 +7,58 @@ use std::alloc::{AllocFailed, Global};
 // How many values are listed at most.
 pub const MOST_LISTED: usize = 8;
 
-// Some variables as they should be: values fit if they have the bits of `mask` as `want` has them.
+// Some variables as they should be: values fit if they have the bits of `mask` as `want` has them. As bits, since the
+// values of a place are bits too: the number of its byte.
 #[derive(Clone, Copy)]
 pub struct Pattern {
     pub mask: usize,
     pub want: usize,
 }
 
-// The first values that fit and are reached, and how many there are.
+impl Pattern {
+    // The one that all values fit.
+    pub(crate) const ANY: Pattern = Pattern { mask: 0, want: 0 };
+
+    // What it wants a variable to be, if it says.
+    pub(crate) fn value(self, variable: usize) -> Option<bool> {
+        let bit = bit_of(variable);
+        if self.mask & bit == 0 {
+            None
+        } else {
+            Some(self.want & bit != 0)
+        }
+    }
+
+    // The same, with one more variable.
+    pub(crate) fn with(self, variable: usize, value: bool) -> Pattern {
+        let bit = bit_of(variable);
+        Pattern {
+            mask: self.mask | bit,
+            want: if value { self.want | bit } else { self.want },
+        }
+    }
+}
+
+// The bit of a variable.
+pub(crate) fn bit_of(variable: usize) -> usize {
+    if variable < 64 { 1 << variable } else { 0 }
+}
+
+// The first values that fit and are reached, and how many there are in all, which may be more.
 #[derive(Drop)]
 pub struct Matches {
     pub first: Vec<usize>,
     pub count: usize,
+}
+
+impl Matches {
+    // Whether there are some.
+    pub(crate) fn any(&self) -> bool
+        ensures yes { 0 < self.now.count → result ≡ true }
+        ensures no { self.now.count ≡ 0 → result ≡ false }
+    {
+        self.count > 0
+    }
 }
 
 // Whether values fit the pattern, and their byte is 1.
@@ -51,10 +91,5 @@ pub fn is_reached(bytes: &[u8]) -> bool
     ensures yes { result ≡ true → SomeOne bytes.now }
     ensures no { result ≡ false → SomeOne bytes.now → ⊥ }
 {
-    for byte in bytes {
-        if *byte == 1 {
-            return true;
-        }
-    }
-    false
+    bytes.contains(&1)
 }

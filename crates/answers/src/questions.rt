@@ -2,59 +2,27 @@
 // `text` for the names that there are.
 use crate::matches::Pattern;
 use crate::reached::Question;
+use crate::scopes::Scope;
 use report::complaints::Complaint;
 use report::refused::Word;
 use std::alloc::Global;
 use std::fmt;
-use text::names::{Names, ProcedureNames, find};
+use text::names::{Names, find};
 
 // Names, one behind another, with commas between.
 #[derive(Drop)]
-struct Listed(Vec<String>);
+struct Listed<'n>(Vec<&'n str>);
 
-impl fmt::Display for Listed {
+impl fmt::Display for Listed<'_> {
     fn fmt<W: fmt::Write>(&self, f: &mut fmt::Formatter<W>) -> fmt::Result {
-        let mut first = true;
-        for name in self.0.iter() {
-            if !first {
+        for (i, name) in self.0.iter().enumerate() {
+            if i > 0 {
                 f.write_str(", ")?;
             }
-            first = false;
-            f.write_str(name.as_str())?;
+            f.write_str(*name)?;
         }
         Ok(())
     }
-}
-
-// The names of all procedures.
-fn procedure_names(heap: Global, names: &Names) -> Result<Listed, Complaint> {
-    let mut all = Vec::new(heap);
-    for procedure in names.procedures.iter() {
-        all.push(String::from_str(heap, procedure.name.as_str())?)?;
-    }
-    Ok(Listed(all))
-}
-
-// The labels of a procedure.
-fn label_names(heap: Global, procedure: &ProcedureNames) -> Result<Listed, Complaint> {
-    let mut all = Vec::new(heap);
-    for label in procedure.labels.iter() {
-        all.push(String::from_str(heap, label.name.as_str())?)?;
-    }
-    Ok(Listed(all))
-}
-
-// The variables of a procedure: the shared ones and its own.
-fn variable_names(
-    heap: Global,
-    names: &Names,
-    procedure: &ProcedureNames,
-) -> Result<Listed, Complaint> {
-    let mut all = Vec::new(heap);
-    for name in names.shared.iter().chain(procedure.own.iter()) {
-        all.push(String::from_str(heap, name.as_str())?)?;
-    }
-    Ok(Listed(all))
 }
 
 // The number of the procedure with this name.
@@ -63,98 +31,96 @@ pub fn find_procedure(heap: Global, names: &Names, word: &str) -> Result<usize, 
         return Ok(number);
     }
     let shown = Word(word.as_bytes());
-    let all = procedure_names(heap, names)?;
+    let all = Listed(
+        names
+            .procedures
+            .iter()
+            .map(|procedure| procedure.name.as_str())
+            .collect(heap)?,
+    );
     Err(Complaint::new(format!(in heap; "There is no procedure \"{shown}\"; there are {all}.")))
 }
 
-// The place that a label or a number names.
-fn find_place(heap: Global, procedure: &ProcedureNames, word: &str) -> Result<usize, Complaint> {
-    let name = procedure.name.as_str();
-    let shown = Word(word.as_bytes());
-    if let Ok(place) = word.parse::<usize>() {
-        let last = procedure.lines.len().saturating_sub(1);
-        if place > last {
+impl Scope<'_> {
+    // The place that a label or a number names.
+    fn place(self, heap: Global, word: &str) -> Result<usize, Complaint> {
+        let procedure = self.procedure;
+        let name = procedure.name.as_str();
+        let shown = Word(word.as_bytes());
+        if let Ok(place) = word.parse::<usize>() {
+            let last = procedure.lines.len().saturating_sub(1);
+            if place > last {
+                return Err(Complaint::new(format!(in heap;
+                    "Procedure {name} has places 0 to {last}, and no place {shown}."
+                )));
+            }
+            return Ok(place);
+        }
+        let labels = procedure.labels.as_slice();
+        if let Some(number) = find(labels, word.as_bytes()) {
+            return Ok(labels[number].place);
+        }
+        if labels.is_empty() {
             return Err(Complaint::new(format!(in heap;
-                "Procedure {name} has places 0 to {last}, and no place {shown}."
+                "Procedure {name} has no label \"{shown}\"; it has none, so name a place by its number."
             )));
         }
-        return Ok(place);
+        let all = Listed(
+            procedure
+                .labels
+                .iter()
+                .map(|label| label.name.as_str())
+                .collect(heap)?,
+        );
+        Err(Complaint::new(format!(in heap;
+            "Procedure {name} has no label \"{shown}\"; it has {all}."
+        )))
     }
-    let labels = procedure.labels.as_slice();
-    match find(labels, word.as_bytes()) {
-        Some(number) => Ok(labels[number].place),
-        None if labels.is_empty() => {
-            Err(Complaint::new(format!(in heap;
-                "Procedure {name} has no label \"{shown}\"; it has none, so name a place by its number."
-            )))
+
+    // The number of the variable with this name: the shared ones first, then the procedure's own.
+    fn variable(self, heap: Global, word: &str) -> Result<usize, Complaint> {
+        let shared = self.names.shared.as_slice();
+        let own = self.procedure.own.as_slice();
+        if let Some(number) = find(shared, word.as_bytes()) {
+            return Ok(number);
         }
-        None => {
-            let all = label_names(heap, procedure)?;
-            Err(Complaint::new(format!(in heap;
-                "Procedure {name} has no label \"{shown}\"; it has {all}."
-            )))
+        if let Some(number) = find(own, word.as_bytes()) {
+            return Ok(shared.len().saturating_add(number));
         }
+        let name = self.procedure.name.as_str();
+        let shown = Word(word.as_bytes());
+        let all = Listed(
+            shared
+                .iter()
+                .chain(own.iter())
+                .map(|variable| variable.as_str())
+                .collect(heap)?,
+        );
+        Err(Complaint::new(format!(in heap;
+            "Procedure {name} has no variable \"{shown}\"; it has {all}."
+        )))
     }
-}
 
-// The number of the variable with this name: the shared ones first, then the procedure's own.
-fn find_variable(
-    heap: Global,
-    names: &Names,
-    procedure: &ProcedureNames,
-    word: &str,
-) -> Result<usize, Complaint> {
-    if let Some(shared) = find(&names.shared, word.as_bytes()) {
-        return Ok(shared);
-    }
-    if let Some(own) = find(&procedure.own, word.as_bytes()) {
-        return Ok(names.shared.len().saturating_add(own));
-    }
-    let name = procedure.name.as_str();
-    let shown = Word(word.as_bytes());
-    let all = variable_names(heap, names, procedure)?;
-    Err(Complaint::new(format!(in heap;
-        "Procedure {name} has no variable \"{shown}\"; it has {all}."
-    )))
-}
-
-// The bit of a variable.
-fn bit_of(variable: usize) -> usize {
-    if variable < 64 { 1 << variable } else { 0 }
-}
-
-// The pattern with one more variable, as `held=1` gives it.
-fn narrow(
-    heap: Global,
-    names: &Names,
-    procedure: &ProcedureNames,
-    pattern: Pattern,
-    word: &str,
-) -> Result<Pattern, Complaint> {
-    let shown = Word(word.as_bytes());
-    let Some((name, value)) = word.split_once('=') else {
-        return Err(Complaint::new(format!(in heap;
-            "\"{shown}\" gives no variable a value; write NAME=0 or NAME=1."
-        )));
-    };
-    let bit = bit_of(find_variable(heap, names, procedure, name)?);
-    if pattern.mask & bit != 0 {
-        return Err(Complaint::new(format!(in heap; "The variable {name} is given twice.")));
-    }
-    let mask = pattern.mask | bit;
-    match value {
-        "0" => Ok(Pattern {
-            mask,
-            want: pattern.want,
-        }),
-        "1" => Ok(Pattern {
-            mask,
-            want: pattern.want | bit,
-        }),
-        _ => {
-            Err(Complaint::new(format!(in heap;
-                "\"{shown}\" gives {name} no value; write {name}=0 or {name}=1."
-            )))
+    // The pattern with one more variable, as `held=1` gives it.
+    fn narrow(self, heap: Global, pattern: Pattern, word: &str) -> Result<Pattern, Complaint> {
+        let shown = Word(word.as_bytes());
+        let Some((name, value)) = word.split_once('=') else {
+            return Err(Complaint::new(format!(in heap;
+                "\"{shown}\" gives no variable a value; write NAME=0 or NAME=1."
+            )));
+        };
+        let variable = self.variable(heap, name)?;
+        if pattern.value(variable).is_some() {
+            return Err(Complaint::new(format!(in heap; "The variable {name} is given twice.")));
+        }
+        match value {
+            "0" => Ok(pattern.with(variable, false)),
+            "1" => Ok(pattern.with(variable, true)),
+            _ => {
+                Err(Complaint::new(format!(in heap;
+                    "\"{shown}\" gives {name} no value; write {name}=0 or {name}=1."
+                )))
+            }
         }
     }
 }
@@ -176,10 +142,11 @@ pub fn ask(
     let Some(procedure) = names.procedures.get(number) else {
         return Err(Complaint::Memory);
     };
-    let place = find_place(heap, procedure, at)?;
-    let mut pattern = Pattern { mask: 0, want: 0 };
+    let scope = Scope { names, procedure };
+    let place = scope.place(heap, at)?;
+    let mut pattern = Pattern::ANY;
     for word in values {
-        pattern = narrow(heap, names, procedure, pattern, word.as_str())?;
+        pattern = scope.narrow(heap, pattern, word.as_str())?;
     }
     Ok(Question {
         procedure: number,

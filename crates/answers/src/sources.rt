@@ -1,9 +1,8 @@
 // A text in readable form, as far as it has to be decided: parsed, encoded, decided. Relies on `text` for parsing and
 // on `tree` for encoding.
-ghost use Rattle.std.specs.Prelude.{◌≡◌};
 ghost use Rattle.answers.specs.Sources.{EncodedTree, DecidedTree, AnsweredTree};
 
-use crate::deciding::{Decided, decide_bytes};
+use crate::deciding::Decided;
 use crate::reached::Question;
 use crate::replies::reply;
 use report::complaints::Complaint;
@@ -24,22 +23,32 @@ struct Report<'f, 'd> {
 impl fmt::Display for Report<'_, '_> {
     fn fmt<W: fmt::Write>(&self, f: &mut fmt::Formatter<W>) -> fmt::Result {
         let file = self.file;
-        let mut first = true;
-        for error in self.errors {
-            if !first {
+        for (i, error) in self.errors.iter().enumerate() {
+            if i > 0 {
                 f.write_str("\n")?;
             }
-            first = false;
             write!(f, "{file}: {error}")?;
         }
         Ok(())
     }
 }
 
+// A program in readable form: what was parsed, of which file and which text.
+#[derive(Drop)]
+pub struct Written<'f, 't> {
+    pub file: &'f str,
+    pub text: &'t [u8],
+    pub source: Source,
+}
+
 // The program that `file` holds as `text`, or what is wrong with it.
-pub fn load(heap: Global, file: &str, text: &[u8]) -> Result<Source, Complaint> {
+pub fn load<'f, 't>(
+    heap: Global,
+    file: &'f str,
+    text: &'t [u8],
+) -> Result<Written<'f, 't>, Complaint> {
     match parse(heap, text) {
-        Ok(source) => Ok(source),
+        Ok(source) => Ok(Written { file, text, source }),
         Err(Failure::Memory) => Err(Complaint::Memory),
         Err(Failure::Errors(errors)) => {
             let report = Report {
@@ -51,36 +60,34 @@ pub fn load(heap: Global, file: &str, text: &[u8]) -> Result<Source, Complaint> 
     }
 }
 
-// The bytes of the program that the source means.
-fn encode_source(heap: Global, file: &str, source: &Source) -> Result<Vec<u8>, Complaint>
-    ensures { EncodedTree source.now.tree result }
-{
-    match encode(heap, &source.tree) {
-        Ok(bytes) => Ok(bytes),
-        Err(fault) => {
-            let refusal = refused(fault, &source.names);
-            Err(Complaint::new(format!(in heap; "{file}: {refusal}")))
+impl Written<'_, '_> {
+    // The bytes of the program that it means.
+    fn encode(&self, heap: Global) -> Result<Vec<u8>, Complaint>
+        ensures { EncodedTree self.now.source.tree result }
+    {
+        match encode(heap, &self.source.tree) {
+            Ok(bytes) => Ok(bytes),
+            Err(fault) => {
+                let file = self.file;
+                let refusal = refused(fault, &self.source.names);
+                Err(Complaint::new(format!(in heap; "{file}: {refusal}")))
+            }
         }
     }
-}
 
-// The table of the program that the source means.
-pub fn decide_source(heap: Global, file: &str, source: &Source) -> Result<Decided, Complaint>
-    ensures { DecidedTree source.now.tree result }
-{
-    let bytes = encode_source(heap, file, source)?;
-    decide_bytes(heap, file, bytes)
-}
+    // The table of the program that it means.
+    pub fn decide(&self, heap: Global) -> Result<Decided, Complaint>
+        ensures { DecidedTree self.now.source.tree result }
+    {
+        let bytes = self.encode(heap)?;
+        Decided::new(heap, self.file, bytes)
+    }
 
-// The answer to a question about the program that the source means.
-pub fn answer(
-    heap: Global,
-    file: &str,
-    source: &Source,
-    question: Question,
-) -> Result<String, Complaint>
-    ensures { AnsweredTree source.now.tree question result }
-{
-    let decided = decide_source(heap, file, source)?;
-    reply(heap, &source.names, &decided, question)
+    // The answer to a question about the program that it means.
+    pub fn answer(&self, heap: Global, question: Question) -> Result<String, Complaint>
+        ensures { AnsweredTree self.now.source.tree question result }
+    {
+        let decided = self.decide(heap)?;
+        reply(heap, &self.source.names, &decided, question)
+    }
 }

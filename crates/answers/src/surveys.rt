@@ -1,38 +1,27 @@
 // A program as a whole: how many places are never reached, which they are, and how many calls can wait. Relies on
 // `reached` for which places are reached, and on `report` for how many calls can wait.
-ghost use Rattle.program.specs.Program.{Prog};
-ghost use Rattle.answers.specs.Deciding.{Holds};
-
 use crate::deciding::Decided;
-use crate::reached::reached_places;
-use crate::sources::decide_source;
+use crate::sources::Written;
 use report::complaints::Complaint;
-use report::waiting::{Waiting, calls_waiting};
+use report::waiting::Waiting;
 use std::alloc::Global;
 use std::fmt;
 use text::names::{Names, ProcedureNames};
-use text::parser::Source;
 
-// For each procedure, a flag for each of its places: whether some run comes there.
-fn survey(heap: Global, decided: &Decided) -> Result<Vec<Vec<bool>>, Complaint>
-    requires { (g : Prog) × Holds g decided.now }
-{
-    let mut all = Vec::new(heap);
-    for f in 0..decided.header.procs {
-        all.push(reached_places(heap, decided, f)?)?;
+impl Decided {
+    // For each procedure, a flag for each of its places: whether some run comes there.
+    fn survey(&self, heap: Global) -> Result<Vec<Vec<bool>>, Complaint> {
+        let mut all = Vec::new(heap);
+        for f in 0..self.program.header.procs {
+            all.push(self.reached_places(heap, f)?)?;
+        }
+        Ok(all)
     }
-    Ok(all)
 }
 
 // How many of the flags are down.
 fn never(flags: &[bool]) -> usize {
-    let mut count: usize = 0;
-    for flag in flags {
-        if !*flag {
-            count = count.saturating_add(1);
-        }
-    }
-    count
+    flags.iter().filter(|flag| !**flag).count()
 }
 
 // What `reach FILE` tells.
@@ -70,41 +59,36 @@ impl fmt::Display for Overview<'_> {
     }
 }
 
-// What there is to tell of the program that the source means.
-pub fn summary(heap: Global, file: &str, source: &Source) -> Result<String, Complaint> {
-    let decided = decide_source(heap, file, source)?;
-    let overview = Overview {
-        names: &source.names,
-        reached: survey(heap, &decided)?,
-        waiting: calls_waiting(heap, decided.bytes.as_slice(), decided.header)?,
-    };
-    Ok(format!(in heap; "{overview}")?)
-}
-
 // The places of a procedure that no run comes to, a line each; or, if none comes to its first one, that nobody calls
 // it.
-fn show_missed<W: fmt::Write>(
-    f: &mut fmt::Formatter<W>,
-    procedure: &ProcedureNames,
-    flags: &[bool],
-    text: &str,
-) -> fmt::Result {
-    let name = procedure.name.as_str();
-    if let Some(false) = flags.first().copied() {
-        let line = procedure.line;
-        return writeln!(f, "{name} line {line}: nobody calls it");
-    }
-    for ((place, flag), line) in flags.iter().enumerate().zip(procedure.lines.iter()) {
-        if !*flag {
-            let shown = text
-                .lines()
-                .nth(line.saturating_sub(1))
-                .unwrap_or("")
-                .trim();
-            writeln!(f, "{name}:{place} line {line}: {shown}")?;
+#[derive(Clone, Copy)]
+struct MissedPlaces<'n, 'f, 't> {
+    procedure: &'n ProcedureNames,
+    flags: &'f [bool],
+    text: &'t str,
+}
+
+impl fmt::Display for MissedPlaces<'_, '_, '_> {
+    fn fmt<W: fmt::Write>(&self, f: &mut fmt::Formatter<W>) -> fmt::Result {
+        let name = self.procedure.name.as_str();
+        if matches!(self.flags.first(), Some(false)) {
+            let line = self.procedure.line;
+            return writeln!(f, "{name} line {line}: nobody calls it");
         }
+        let lines = self.procedure.lines.iter();
+        for ((place, flag), line) in self.flags.iter().enumerate().zip(lines) {
+            if !*flag {
+                let shown = self
+                    .text
+                    .lines()
+                    .nth(line.saturating_sub(1))
+                    .unwrap_or("")
+                    .trim();
+                writeln!(f, "{name}:{place} line {line}: {shown}")?;
+            }
+        }
+        Ok(())
     }
-    Ok(())
 }
 
 // What `unreached FILE` tells.
@@ -117,33 +101,46 @@ struct Missed<'n, 't> {
 
 impl fmt::Display for Missed<'_, '_> {
     fn fmt<W: fmt::Write>(&self, f: &mut fmt::Formatter<W>) -> fmt::Result {
-        let mut all = true;
-        for (procedure, flags) in self.names.procedures.iter().zip(self.reached.iter()) {
-            if never(flags.as_slice()) > 0 {
-                all = false;
-                show_missed(f, procedure, flags.as_slice(), self.text)?;
-            }
+        let procedures = self.names.procedures.as_slice();
+        let text = self.text;
+        let mut named = procedures.iter().zip(self.reached.iter());
+        if named.all(|(_, flags)| never(flags.as_slice()) == 0) {
+            return f.write_str("every place is reached\n");
         }
-        if all {
-            f.write_str("every place is reached\n")?;
+        for (procedure, flags) in procedures.iter().zip(self.reached.iter()) {
+            let flags = flags.as_slice();
+            let missed = MissedPlaces {
+                procedure,
+                flags,
+                text,
+            };
+            write!(f, "{missed}")?;
         }
         Ok(())
     }
 }
 
-// The places of the program that the source means to which no run comes; `text` is what it was parsed from.
-pub fn unreached(
-    heap: Global,
-    file: &str,
-    source: &Source,
-    text: &[u8],
-) -> Result<String, Complaint> {
-    let decided = decide_source(heap, file, source)?;
-    let shown = String::from_utf8_lossy(heap, text)?;
-    let missed = Missed {
-        names: &source.names,
-        reached: survey(heap, &decided)?,
-        text: shown.as_str(),
-    };
-    Ok(format!(in heap; "{missed}")?)
+impl Written<'_, '_> {
+    // What there is to tell of the program that it means.
+    pub fn summary(&self, heap: Global) -> Result<String, Complaint> {
+        let decided = self.decide(heap)?;
+        let overview = Overview {
+            names: &self.source.names,
+            reached: decided.survey(heap)?,
+            waiting: decided.program.calls_waiting(heap)?,
+        };
+        Ok(format!(in heap; "{overview}")?)
+    }
+
+    // The places of the program that it means to which no run comes.
+    pub fn unreached(&self, heap: Global) -> Result<String, Complaint> {
+        let decided = self.decide(heap)?;
+        let text = String::from_utf8_lossy(heap, self.text)?;
+        let missed = Missed {
+            names: &self.source.names,
+            reached: decided.survey(heap)?,
+            text: text.as_str(),
+        };
+        Ok(format!(in heap; "{missed}")?)
+    }
 }

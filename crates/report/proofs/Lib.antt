@@ -1,4 +1,6 @@
 -- The lemmas on walking, refusals and answers.
+pub mod Bounds
+pub mod Knowing
 pub mod Walks
 pub mod Refusals
 pub mod Parts

@@ -20,19 +20,18 @@ nth_get_or (x ∷ t) (suc k) n e = nth_get_or t k n e
 not_both : (told : List ℕ) → told ≡ codes "yes\n" → told ≡ codes "no\n" → ⊥
 not_both told y n = let z : ◌≡◌ {A = ℕ} 4 3 = ap length (sym y ∙ n) in absurd (omega arith)
 
-module _ (s : List ℕ) (d : Header) (q : Query) (h : Part) (w at : ℕ) (t told : List ℕ) (read : ReadProgram s (Ok d)) (once : OneProgram) (part : Parted s d q.procedure h) (wide : w ≡ 2 ^ (d.shared + h.procedure.own)) (spotted : Spotted w h q (Ok at)) (yes_if : get_or t at 0 ≡ 1 → told ≡ codes "yes\n") (no_if : (get_or t at 0 ≡ 1 → ⊥) → told ≡ codes "no\n") where
+module _ (s : List ℕ) (d : Header) (q : Query) (h : Part) (at : ℕ) (t told : List ℕ) (read : ReadProgram s (Ok d)) (once : OneProgram) (part : Parted s d q.procedure h) (spotted : Spotted h q (Ok at)) (yes_if : get_or t at 0 ≡ 1 → told ≡ codes "yes\n") (no_if : (get_or t at 0 ≡ 1 → ⊥) → told ≡ codes "no\n") where
   pub tells : (g : Prog) → Reads s g → Table g t → Tells g q.procedure q.place q.values told
   tells g r table =
       let header : HeaderOf g d = subst (λ x. HeaderOf x d) (once s read.0 g read.1 r) read.2 in
       let o = part.0 g r header in
-      let width : w ≡ 2 ^ (g.shared + o.p.own) = wide ∙ λ i. 2 ^ (header.shared i + o.own i) in
       let place : q.place ≤ length o.p.steps = omega (arith, spotted.0, o.steps) in
-      let here : at ≡ before g.shared g.procs q.procedure + (q.place * 2 ^ (g.shared + o.p.own) + q.values) = spotted.2 ∙ λ i. o.base i + (q.place * width i + q.values) in
+      let here : at ≡ before g.shared g.procs q.procedure + (q.place * 2 ^ (g.shared + o.p.own) + q.values) = spotted.2 ∙ λ i. o.base i + (q.place * o.width i + q.values) in
       record {
         p = o.p;
         there = o.there;
         place = place;
-        values = subst (λ x. q.values < x) width spotted.1;
+        values = subst (λ x. q.values < x) o.width spotted.1;
         one = elim (cases_eq (get_or t at 0) 1) [ inl e ↦ inl (yes_if e) | inr e ↦ inr (no_if e) ];
         is = λ sh own ls lo v.
             let n = table.tells q.procedure q.place o.p sh own o.there place ls lo in

@@ -1,13 +1,16 @@
 -- Walking through the procedures tells each of them in its turn.
-use Rattle.std.proofs.Common.{◌≡◌, ℕ, ◌+◌, ◌<◌, ◌≤◌, List, [], ◌∷◌, ◌++◌, length, drop, Ok, sym, ap, ◌∙◌, subst, append_assoc, append-nil, arith}
+use Rattle.std.proofs.Common.{◌≡◌, ℕ, ◌+◌, ◌<◌, ◌≤◌, List, [], ◌∷◌, ◌++◌, drop, Some, None, Ok, refl, sym, ap, ◌∙◌, subst, append_assoc, append-nil, arith}
 use Rattle.std.proofs.lemmas.List.{drop_all}
 use Rattle.program.specs.declared.procedures.Procedure.{Procedure}
 use Rattle.program.specs.declared.programs.Header.{Header}
 use Rattle.program.specs.Program.{Prog}
-use Rattle.program.specs.Rows.{row_p, OkP, Reads}
-use Rattle.program.specs.Reading.{Nothing, ReadProc, HeaderOf}
+use Rattle.program.specs.declared.walks.Procedures.{Procedures}
+use Rattle.program.specs.Rows.{Reads}
+use Rattle.program.specs.Reading.{ReadProc, HeaderOf}
 use Rattle.program.specs.Walking.{Rest}
-use Rattle.program.proofs.Walk.{rest_first, rest_some, rest_next}
+use Rattle.program.specs.Walks.{AtProcedure, GivesProcedure}
+use Rattle.program.proofs.Walk.{rest_first, rest_next}
+use Rattle.program.proofs.Turns.{procedure_next, procedures_all}
 use Rattle.report.specs.Summaries.{Heads}
 
 -- i procedures are told, and what is told of the others is told of all
@@ -19,11 +22,6 @@ pub start : (s : List ℕ) (d : Header) → Sofar s d 0 1 []
 start s d = record { rest = λ g r h. rest_first r; heads = λ g r h more k. k }
 
 module _ {s : List ℕ} {d : Header} {i at : ℕ} {told : List Procedure} (inv : Sofar s d i at told) (here : i < d.procs) where
-  pub some : (g : Prog) → Reads s g → HeaderOf g d → Nothing row_p (OkP d.shared d.procs) s at → ⊥
-  some g r h q =
-      let there : i < length g.procs = omega (arith, h.procs) in
-      rest_some r i at (inv.rest g r h) there (subst (λ m. Nothing row_p (OkP g.shared m) s at) h.procs (subst (λ k. Nothing row_p (OkP k d.procs) s at) h.shared q))
-
   pub next : (p : Procedure) → ReadProc d.shared d.procs s at (Ok p) → (told' : List Procedure) → told' ≡ told ++ (p ∷ []) → Sofar s d (i + 1) p.end told'
   next p q told' e = record {
     rest = λ g r h. (rest_next r i at (inv.rest g r h) (omega (arith, h.procs)) _ _ p q).rest;
@@ -37,3 +35,25 @@ pub finish : {s : List ℕ} {d : Header} {i at : ℕ} {told : List Procedure} �
 finish {i = i} {told = told} inv l g r h =
     let none = drop_all i g.procs (omega (arith, h.procs)) in
     subst (Heads g.procs) (append-nil told) (inv.heads g r h [] (subst (λ ps. Heads ps []) (sym none) tt))
+
+-- the walk has told all that it passed
+pub record Walking (s : List ℕ) (d : Header) (told : List Procedure) (w : Procedures) : Type 0 where
+  pub i : ℕ
+  pub here : AtProcedure s d i w.at w
+  pub sofar : Sofar s d i w.at told
+
+pub walking : {s : List ℕ} {d : Header} {w : Procedures} → AtProcedure s d 0 1 w → Walking s d [] w
+walking {s} {d} {w} h = record { i = 0; here = record { bytes = h.bytes; header = h.header; at = refl; left = h.left }; sofar = subst (λ at. Sofar s d 0 at []) (sym h.at) (start s d) }
+
+module _ {s : List ℕ} {d : Header} {told : List Procedure} {w : Procedures} (inv : Walking s d told w) where
+  pub walk_on : (v : Procedures) (p : Procedure) (told' : List Procedure) → GivesProcedure w (Some p) v → told' ≡ told ++ (p ∷ []) → Walking s d told' v
+  walk_on v p told' k e =
+      let n = procedure_next inv.here v p k in
+      record {
+        i = inv.i + 1;
+        here = record { bytes = n.2.bytes; header = n.2.header; at = refl; left = n.2.left };
+        sofar = subst (λ at. Sofar s d (inv.i + 1) at told') (sym n.2.at) (next inv.sofar n.0 p n.1 told' e);
+      }
+
+  pub walked : (v : Procedures) → GivesProcedure w None v → (g : Prog) → Reads s g → HeaderOf g d → Heads g.procs told
+  walked v k g r h = finish inv.sofar (omega (arith, procedures_all inv.here v k r h (inv.sofar.rest g r h))) g r h

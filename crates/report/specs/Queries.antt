@@ -14,7 +14,7 @@ use Rattle.report.specs.declared.complaints.Complaint.{Complaint}
 use Rattle.report.specs.declared.queries.Query.{Query}
 use Rattle.report.specs.declared.queries.Part.{Part}
 
--- procedure f of g, and the bytes before it
+-- procedure f of g, the bytes before it, and those of each of its places
 pub record PartOf (g : Prog) (f : ℕ) (h : Part) : Type 0 where
   pub p : Proc
   pub there : nth g.procs f ≡ some p
@@ -22,15 +22,16 @@ pub record PartOf (g : Prog) (f : ℕ) (h : Part) : Type 0 where
   pub steps : h.procedure.steps ≡ length p.steps
   pub few : p.own ≤ 6
   pub base : h.base ≡ before g.shared g.procs f
+  pub width : h.width ≡ 2 ^ (g.shared + p.own)
 
 -- the same of the program that the bytes are
 abbrev pub Parted : List ℕ → Header → ℕ → Part → Type 0
-Parted s d f h = ((g : Prog) → Reads s g → HeaderOf g d → PartOf g f h) × (h.procedure.own ≤ 6) × (h.base ≤ 67108864)
+Parted s d f h = ((g : Prog) → Reads s g → HeaderOf g d → PartOf g f h) × (h.procedure.own ≤ 6) × (h.base ≤ 67108864) × (1 ≤ h.width) × (h.width ≤ 4096)
 
 -- where the byte of a query stands, if its place and values are those of the procedure
-abbrev pub Spotted : ℕ → Part → Query → Result ℕ Complaint → Type 0
-Spotted width h q (Ok at) = (q.place ≤ h.procedure.steps) × (q.values < width) × (at ≡ h.base + (q.place * width + q.values))
-Spotted width h q (Err c) = Unit {0}
+abbrev pub Spotted : Part → Query → Result ℕ Complaint → Type 0
+Spotted h q (Ok at) = (q.place ≤ h.procedure.steps) × (q.values < h.width) × (at ≡ h.base + (q.place * h.width + q.values))
+Spotted h q (Err c) = Unit {0}
 
 -- the table of the program that the bytes are
 abbrev pub Decided : List ℕ → Result (Vec ℕ Global) Complaint → Type 0

@@ -8,7 +8,8 @@ use Rattle.program.specs.Rows.{Reads}
 use Rattle.program.specs.Reading.{HeaderOf}
 use Rattle.syntax.specs.Decimal.{Lists}
 use Rattle.report.specs.declared.complaints.Complaint.{Complaint}
-use Rattle.report.specs.declared.complaints.Complaint.TheVariants.{Sentence, Memory}
+use Rattle.report.specs.declared.complaints.Complaint.TheVariants.{Memory}
+use Rattle.report.specs.Files.{Refused}
 
 -- procedure by procedure, what is told of it
 abbrev pub Heads : List Proc → List Procedure → Type 0
@@ -22,9 +23,7 @@ abbrev pub Walked : List ℕ → Header → Result (Vec Procedure Global) Compla
 Walked s d (Ok v) = (g : Prog) → Reads s g → HeaderOf g d → Heads g.procs (vec_items v)
 Walked s d (Err c) = c ≡ Memory
 
--- a summary is given only of a text that lists the bytes of a program, and a sentence of refusal
--- only if it lists none; where memory is short nothing is said
+-- a summary is given only of a text that lists the bytes of a program, and a refusal only if it lists none
 abbrev pub Summarised : List ℕ → Result (String Global) Complaint → Type 0
 Summarised text (Ok told) = (s : List ℕ) × (g : Prog) × Lists text s × Reads s g
-Summarised text (Err (Sentence c)) = (s : List ℕ) (g : Prog) → Lists text s → Reads s g → ⊥
-Summarised text (Err Memory) = Unit {0}
+Summarised text (Err c) = Refused text c

@@ -41,6 +41,7 @@ pub fn query_arguments(heap: Global, args: &[String]) -> Result<Option<Query>, C
 #[cfg(test)]
 mod tests {
     use super::*;
+    use crate::complaints::shown;
     use std::test::Fail;
 
     #[test]
@@ -70,13 +71,8 @@ mod tests {
             for word in line.split_whitespace() {
                 args.push(String::from_str(rt.alloc(), word)?)?;
             }
-            match file_argument(rt.alloc(), args.as_slice()) {
-                Ok(file) => assert_eq!(rt; file, expected),
-                Err(complaint) => assert_eq!(rt;
-                    complaint.to_string(rt.alloc())?.as_str(),
-                    expected
-                ),
-            }
+            let outcome = file_argument(rt.alloc(), args.as_slice());
+            assert_eq!(rt; shown(rt.alloc(), outcome)?.as_str(), expected);
         }
         Ok(())
     }

@@ -3,6 +3,8 @@ ghost use Rattle.std.specs.Prelude.{◌≡◌, ℕ, List, IfOk, string_bytes, Ma
 ghost use Rattle.report.specs.declared.complaints.Complaint.TheVariants.{Sentence, Memory};
 ghost use Rattle.report.specs.Complaints.{Said};
 
+#[cfg(test)]
+use std::alloc::Global;
 use std::alloc::{AllocError, AllocFailed};
 use std::fmt;
 
@@ -14,7 +16,8 @@ pub enum Complaint {
 }
 
 impl Complaint {
-    // The sentence, if there was memory to make it.
+    // The sentence, if there was memory to make it. As a `From` it is no plainer: each caller would first bind the
+    // outcome of its `format!`, with its type.
     pub fn new(sentence: Result<String, AllocError>) -> Complaint
         ensures is { MatchResult sentence (λ text. result ≡ Sentence text) (λ _. result ≡ Memory) }
         ensures said { (text : List ℕ) → IfOk sentence (λ t. string_bytes t ≡ text) → Said result text }
@@ -26,6 +29,7 @@ impl Complaint {
     }
 }
 
+// These two stay written by hand: clauses name the error that a `?` makes, and the `From` of a derive says none.
 impl From<AllocError> for Complaint {
     ghost from_gives = { λ _ r. r ≡ Memory };
 
@@ -48,5 +52,17 @@ impl fmt::Display for Complaint {
             Complaint::Sentence(sentence) => f.write_str(sentence.as_str()),
             Complaint::Memory => f.write_str("There is not enough memory."),
         }
+    }
+}
+
+// What is told, or said in its place.
+#[cfg(test)]
+pub fn shown<T: fmt::Display + Drop>(
+    heap: Global,
+    outcome: Result<T, Complaint>,
+) -> Result<String, AllocError> {
+    match outcome {
+        Ok(told) => told.to_string(heap),
+        Err(complaint) => complaint.to_string(heap),
     }
 }

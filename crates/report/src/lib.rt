@@ -5,8 +5,10 @@
 
 pub mod arguments;
 pub mod complaints;
-pub mod memory;
+mod files;
+pub mod loaded;
 pub mod queries;
 pub mod refused;
 pub mod summaries;
+pub mod verdicts;
 pub mod waiting;

@@ -1,19 +1,18 @@
 // Whether a program can be at a place with some values, as `reach` is asked and as it answers. Relies on
 // `places` for the answer, on `program` for reading a program and on `syntax` for its byte form.
-ghost use Rattle.std.specs.Prelude.{◌≡◌, ◌+◌, ◌*◌, ◌<◌, ◌≤◌, Ok, codes, ◌≢◌, slice_index};
-ghost use Rattle.program.specs.Reading.{ReadProgram};
+ghost use Rattle.std.specs.Prelude.{◌≡◌, ◌<◌, ◌≤◌, codes, ◌≢◌, slice_index};
 ghost use Rattle.report.specs.Queries.{Parted, Spotted, Decided, Answered};
 
 use crate::complaints::Complaint;
-use crate::memory::{MOST_MEMORY, needed};
-use crate::refused::{Word, no_listing, no_program};
+use crate::files::File;
+use crate::loaded::{Loaded, MOST_MEMORY};
+use crate::refused::Word;
+use crate::verdicts::verdict;
 use places::{Known, know};
-use program::procedures::{Procedure, read_procedure, table_size, values};
-use program::programs;
-use program::programs::Header;
+use program::procedures::Procedure;
+use program::walks::Procedures;
 use std::alloc::Global;
 use std::num::IntErrorKind;
-use syntax::decimal::read_decimal;
 
 // A procedure, a place of it and the values of its variables, the first shared one as the lowest bit.
 #[derive(Clone, Copy)]
@@ -54,75 +53,104 @@ fn number(heap: Global, argument: &str, verb: &str, word: &str) -> Result<usize,
     }
 }
 
-// A procedure, and where its bytes of the table begin.
+// A procedure, where its bytes of the table begin, and how many each of its places has.
 #[derive(Clone, Copy)]
 pub struct Part {
     pub procedure: Procedure,
     pub base: usize,
+    pub width: usize,
 }
 
-// The part of procedure `number` of a program that was read.
-pub fn find_part(bytes: &[u8], header: Header, number: usize) -> Part
-    requires reads { ReadProgram bytes.now (Ok header) }
-    requires there { number < header.procs }
-    ensures { Parted bytes.now header number result }
-{
-    let mut at = 1;
-    let mut base: usize = 0;
-    for _i in 0..number {
-        let Ok(before) = read_procedure(bytes, at, header.shared, header.procs) else {
-            unreachable()
-        };
-        base += table_size(header.shared, before.own, before.steps);
-        at = before.end;
+impl Part {
+    // Where the byte that answers `query`, which is of this procedure, stands.
+    fn byte_of(self, heap: Global, query: Query) -> Result<usize, Complaint>
+        requires some { 1 ≤ self.width }
+        requires small { (self.width ≤ 4096) × (self.base ≤ 67108864) }
+        ensures { Spotted self query result }
+    {
+        let Query {
+            procedure,
+            place,
+            values,
+        } = query;
+        let steps = usize::from(self.procedure.steps);
+        if place > steps {
+            return Err(Complaint::new(format!(in heap;
+                "Procedure {procedure} has places 0 to {steps}, and no place {place}."
+            )));
+        }
+        if values >= self.width {
+            let last = self.width - 1;
+            return Err(Complaint::new(format!(in heap;
+                "Procedure {procedure} has values 0 to {last}, and no values {values}."
+            )));
+        }
+        Ok(self.base + (place * self.width + values))
     }
-    let Ok(procedure) = read_procedure(bytes, at, header.shared, header.procs) else {
+}
+
+impl Loaded {
+    // Its part of procedure `number`.
+    pub fn part(&self, number: usize) -> Part
+        requires { number < self.now.header.procs }
+        ensures { Parted self.now.bytes.items self.now.header number result }
+    {
+        let mut base: usize = 0;
+        for (i, procedure) in Procedures::new(self.bytes.as_slice(), self.header).enumerate() {
+            if i == number {
+                return Part {
+                    procedure,
+                    base,
+                    width: self.header.width(procedure),
+                };
+            }
+            base += self.header.table_size(procedure);
+        }
         unreachable()
-    };
-    Part { procedure, base }
+    }
+
+    // Its table; `file` is for the sentence of refusal.
+    pub fn decide(&self, heap: Global, file: &str) -> Result<Vec<u8>, Complaint>
+        ensures { Decided self.now.bytes.items result }
+    {
+        let memory = self.memory();
+        if memory > MOST_MEMORY {
+            return Err(Complaint::new(format!(in heap;
+                "{file} needs {memory} bytes of memory, and {MOST_MEMORY} are the most."
+            )));
+        }
+        let mut table = vec![in heap; 0u8; self.header.table]?;
+        let mut work = vec![in heap; 0u32; self.header.work]?;
+        match know(
+            self.bytes.as_slice(),
+            table.as_mut_slice(),
+            work.as_mut_slice(),
+        ) {
+            Known::Told => Ok(table),
+            Known::NoProgram | Known::OutFull | Known::Few => unreachable(),
+        }
+    }
+
+    // That it has no such procedure.
+    fn no_procedure(&self, heap: Global, file: &str, procedure: usize) -> Complaint {
+        let last = self.header.procs - 1;
+        Complaint::new(format!(in heap;
+            "{file} has procedures 0 to {last}, and no procedure {procedure}."
+        ))
+    }
 }
 
-// Where the byte that answers `query` stands, whose procedure has this part of the table.
-fn find_byte(heap: Global, width: usize, part: Part, query: Query) -> Result<usize, Complaint>
-    requires some { 1 ≤ width }
-    requires small { (width ≤ 4096) × (part.base ≤ 67108864) }
-    ensures { Spotted width part query result }
+// Whether the program that `file` holds as `text` can be where `query` asks: `yes` or `no`, on a line.
+pub fn answer(heap: Global, file: &str, text: &[u8], query: Query) -> Result<String, Complaint>
+    ensures { Answered text.now query result }
 {
-    let procedure = query.procedure;
-    let steps = usize::from(part.procedure.steps);
-    if query.place > steps {
-        let place = query.place;
-        return Err(Complaint::new(format!(in heap;
-            "Procedure {procedure} has places 0 to {steps}, and no place {place}."
-        )));
+    let program = File { name: file, text }.load(heap)?;
+    if query.procedure >= program.header.procs {
+        return Err(program.no_procedure(heap, file, query.procedure));
     }
-    if query.values >= width {
-        let last = width - 1;
-        let values = query.values;
-        return Err(Complaint::new(format!(in heap;
-            "Procedure {procedure} has values 0 to {last}, and no values {values}."
-        )));
-    }
-    Ok(part.base + (query.place * width + query.values))
-}
-
-// The table of the program that the bytes are.
-pub fn decide(heap: Global, file: &str, bytes: &[u8], header: Header) -> Result<Vec<u8>, Complaint>
-    requires { ReadProgram bytes.now (Ok header) }
-    ensures { Decided bytes.now result }
-{
-    let bytes_needed = needed(header, bytes.len());
-    if bytes_needed > MOST_MEMORY {
-        return Err(Complaint::new(format!(in heap;
-            "{file} needs {bytes_needed} bytes of memory, and {MOST_MEMORY} are the most."
-        )));
-    }
-    let mut table = vec![in heap; 0u8; header.table]?;
-    let mut work = vec![in heap; 0u32; header.work]?;
-    match know(bytes, table.as_mut_slice(), work.as_mut_slice()) {
-        Known::Told => Ok(table),
-        Known::NoProgram | Known::OutFull | Known::Few => unreachable(),
-    }
+    let at = program.part(query.procedure).byte_of(heap, query)?;
+    let table = program.decide(heap, file)?;
+    Ok(String::from_str(heap, reply(table.as_slice(), at))?)
 }
 
 // What the byte at `at` of the table says.
@@ -130,47 +158,13 @@ fn reply(table: &[u8], at: usize) -> &'static str
     ensures yes { slice_index table.now at ≡ 1 → result.now ≡ codes "yes\n" }
     ensures no { (slice_index table.now at ≢ 1) → result.now ≡ codes "no\n" }
 {
-    if at >= table.len() {
-        return "no\n";
-    }
-    if table[at] == 1 { "yes\n" } else { "no\n" }
-}
-
-// Whether the program that `file` holds as `text` can be where `query` asks: `yes` or `no`, on a line.
-pub fn answer(heap: Global, file: &str, text: &[u8], query: Query) -> Result<String, Complaint>
-    ensures { Answered text.now query result }
-{
-    let listing = match read_decimal(heap, text) {
-        Ok(listing) => listing,
-        Err(fault) => return Err(no_listing(heap, file, text, fault)),
-    };
-    let bytes = listing.bytes.as_slice();
-    let header = match programs::read(bytes) {
-        Ok(header) => header,
-        Err(refusal) => return Err(no_program(heap, file, &listing, refusal)),
-    };
-    if query.procedure >= header.procs {
-        return Err(no_procedure(heap, file, header, query.procedure));
-    }
-    let part = find_part(bytes, header, query.procedure);
-    let width = values(header.shared + part.procedure.own);
-    let at = find_byte(heap, width, part, query)?;
-    let table = decide(heap, file, bytes, header)?;
-    let told = reply(table.as_slice(), at);
-    Ok(String::from_str(heap, told)?)
-}
-
-// That the program has no such procedure.
-fn no_procedure(heap: Global, file: &str, header: Header, procedure: usize) -> Complaint {
-    let last = header.procs.saturating_sub(1);
-    Complaint::new(format!(in heap;
-        "{file} has procedures 0 to {last}, and no procedure {procedure}."
-    ))
+    verdict(matches!(table.get(at), Some(1)))
 }
 
 #[cfg(test)]
 mod tests {
     use super::*;
+    use crate::complaints::shown;
     use std::test::Fail;
 
     const RING: &'static str = "1 0 1 3 1 1 4 1 1 2 3 1 1 3 1 0 0 2 1 0";
@@ -191,13 +185,8 @@ mod tests {
             (("0", "1", "1"), "yes\n"),
         ];
         for (words, expected) in cases {
-            match said(rt.alloc(), RING, words) {
-                Ok(told) => assert_eq!(rt; told.as_str(), expected),
-                Err(complaint) => assert_eq!(rt;
-                    complaint.to_string(rt.alloc())?.as_str(),
-                    expected
-                ),
-            }
+            let outcome = said(rt.alloc(), RING, words);
+            assert_eq!(rt; shown(rt.alloc(), outcome)?.as_str(), expected);
         }
         Ok(())
     }
@@ -245,13 +234,8 @@ mod tests {
             ),
         ];
         for (text, words, expected) in cases {
-            match said(rt.alloc(), text, words) {
-                Ok(told) => assert_eq!(rt; told.as_str(), expected),
-                Err(complaint) => assert_eq!(rt;
-                    complaint.to_string(rt.alloc())?.as_str(),
-                    expected
-                ),
-            }
+            let outcome = said(rt.alloc(), text, words);
+            assert_eq!(rt; shown(rt.alloc(), outcome)?.as_str(), expected);
         }
         Ok(())
     }

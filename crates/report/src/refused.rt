@@ -5,6 +5,7 @@ ghost use Rattle.std.specs.declared.io.ErrorKind.TheVariants.{NotFound};
 ghost use Rattle.report.specs.Complaints.{Said};
 
 use crate::complaints::Complaint;
+use crate::files::File;
 use program::refusals::{Reason, Refusal};
 use std::alloc::Global;
 use std::fmt;
@@ -42,21 +43,23 @@ enum Claim {
     Whole(&'static str),
 }
 
-fn wording(reason: Reason) -> Claim {
-    match reason {
-        Reason::TooLong => Claim::Whole("it comes to more than 8192 bytes"),
-        Reason::EndsEarly => Claim::Whole("it ends early"),
-        Reason::TooManyVariables => Claim::Byte(
-            "asks for ",
-            " variables, and there may be at most 6",
-        ),
-        Reason::NoSuchVariable => Claim::Byte("names variable ", ", which is not there"),
-        Reason::UnknownStep => Claim::Byte("is ", ", which is no kind of step"),
-        Reason::UnknownExpression => Claim::Byte("is ", ", which is no kind of expression"),
-        Reason::NoSuchPlace => Claim::Byte("names place ", ", which is not there"),
-        Reason::NoSuchProcedure => Claim::Byte("names procedure ", ", which is not there"),
-        Reason::TooManyProcedures => Claim::Whole("it comes to more than 64 procedures"),
-        Reason::NoProcedure => Claim::Whole("it ends without a procedure"),
+impl From<Reason> for Claim {
+    fn from(reason: Reason) -> Claim {
+        match reason {
+            Reason::TooLong => Claim::Whole("it comes to more than 8192 bytes"),
+            Reason::EndsEarly => Claim::Whole("it ends early"),
+            Reason::TooManyVariables => Claim::Byte(
+                "asks for ",
+                " variables, and there may be at most 6",
+            ),
+            Reason::NoSuchVariable => Claim::Byte("names variable ", ", which is not there"),
+            Reason::UnknownStep => Claim::Byte("is ", ", which is no kind of step"),
+            Reason::UnknownExpression => Claim::Byte("is ", ", which is no kind of expression"),
+            Reason::NoSuchPlace => Claim::Byte("names place ", ", which is not there"),
+            Reason::NoSuchProcedure => Claim::Byte("names procedure ", ", which is not there"),
+            Reason::TooManyProcedures => Claim::Whole("it comes to more than 64 procedures"),
+            Reason::NoProcedure => Claim::Whole("it ends without a procedure"),
+        }
     }
 }
 
@@ -65,16 +68,7 @@ fn line_of(lines: &[usize], at: usize) -> usize
     ensures inside { at < length lines.now → result ≡ slice_index lines.now at }
     ensures past { length lines.now ≤ at → result ≡ slice_index_or lines.now (length lines.now - 1) 1 }
 {
-    if at < lines.len() {
-        lines[at]
-    } else {
-        lines.last().copied().unwrap_or(1)
-    }
-}
-
-// The word that stands at `place`.
-fn word_at(text: &[u8], place: Place) -> Word<'_> {
-    Word(text.get(place.start..place.end).unwrap_or(b""))
+    lines.get(at).or(lines.last()).copied().unwrap_or(1)
 }
 
 // Why `file` cannot be read.
@@ -88,49 +82,53 @@ pub fn unreadable(heap: Global, file: &str, kind: ErrorKind) -> Complaint
     }
 }
 
-// Why `text` lists no bytes.
-pub(crate) fn no_listing(heap: Global, file: &str, text: &[u8], fault: Fault) -> Complaint
-    ensures { fault ≡ Fault.Memory → result ≡ Complaint.Memory }
-{
-    match fault {
-        Fault::NoNumber(place) => {
-            let line = place.line;
-            let word = word_at(text, place);
-            Complaint::new(format!(in heap;
-                "Line {line} of {file} has \"{word}\", which is no number."
-            ))
-        }
-        Fault::TooLarge(place) => {
-            let line = place.line;
-            let word = word_at(text, place);
-            Complaint::new(format!(in heap;
-                "Line {line} of {file} has {word}, which is above 255."
-            ))
-        }
-        Fault::Memory => Complaint::Memory,
-    }
+// The word that stands at `place`.
+fn word_at(text: &[u8], place: Place) -> Word<'_> {
+    Word(text.get(place.start..place.end).unwrap_or(b""))
 }
 
-// Why the bytes of `listing` are no program.
-pub(crate) fn no_program(
-    heap: Global,
-    file: &str,
-    listing: &Listing,
-    refusal: Refusal,
-) -> Complaint {
-    let at = refusal.at;
-    let line = line_of(listing.lines.as_slice(), at);
-    match wording(refusal.reason) {
-        Claim::Byte(before, after) => {
-            let byte = listing.bytes.get(at).copied().unwrap_or(0);
-            Complaint::new(format!(in heap;
-                "{file} is no program: byte {at} (line {line}) {before}{byte}{after}."
-            ))
+impl File<'_, '_> {
+    // Why its text lists no bytes.
+    pub fn no_listing(&self, heap: Global, fault: Fault) -> Complaint
+        ensures { fault ≡ Fault.Memory → result ≡ Complaint.Memory }
+    {
+        let name = self.name;
+        match fault {
+            Fault::NoNumber(place) => {
+                let line = place.line;
+                let word = word_at(self.text, place);
+                Complaint::new(format!(in heap;
+                    "Line {line} of {name} has \"{word}\", which is no number."
+                ))
+            }
+            Fault::TooLarge(place) => {
+                let line = place.line;
+                let word = word_at(self.text, place);
+                Complaint::new(format!(in heap;
+                    "Line {line} of {name} has {word}, which is above 255."
+                ))
+            }
+            Fault::Memory => Complaint::Memory,
         }
-        Claim::Whole(what) => {
-            Complaint::new(format!(in heap;
-                "{file} is no program: at byte {at} (line {line}) {what}."
-            ))
+    }
+
+    // Why the bytes of `listing`, which its text lists, are no program.
+    pub fn no_program(&self, heap: Global, listing: &Listing, refusal: Refusal) -> Complaint {
+        let name = self.name;
+        let at = refusal.at;
+        let line = line_of(listing.lines.as_slice(), at);
+        match Claim::from(refusal.reason) {
+            Claim::Byte(before, after) => {
+                let byte = listing.bytes.get(at).copied().unwrap_or(0);
+                Complaint::new(format!(in heap;
+                    "{name} is no program: byte {at} (line {line}) {before}{byte}{after}."
+                ))
+            }
+            Claim::Whole(what) => {
+                Complaint::new(format!(in heap;
+                    "{name} is no program: at byte {at} (line {line}) {what}."
+                ))
+            }
         }
     }
 }
@@ -143,7 +141,11 @@ mod tests {
 
     #[test]
     fn programs(rt: HostRuntime) -> Result<(), Fail> {
-        let listing = read_decimal(rt.alloc(), b"9 0 1\n3 5\n\n1 64\n")?;
+        let file = File {
+            name: "f",
+            text: b"9 0 1\n3 5\n\n1 64\n",
+        };
+        let listing = read_decimal(rt.alloc(), file.text)?;
         let cases = [
             (
                 7,
@@ -197,7 +199,7 @@ mod tests {
             ),
         ];
         for (at, reason, sentence) in cases {
-            let complaint = no_program(rt.alloc(), "f", &listing, Refusal { at, reason });
+            let complaint = file.no_program(rt.alloc(), &listing, Refusal { at, reason });
             assert_eq!(rt; complaint.to_string(rt.alloc())?.as_str(), sentence);
         }
         Ok(())

@@ -1,17 +1,15 @@
 // What `reach` tells of a program before it is decided. Relies on `program` for reading a program
 // and on `syntax` for its byte form.
-ghost use Rattle.std.specs.Prelude.{Ok};
-ghost use Rattle.program.specs.Reading.{ReadProgram};
 ghost use Rattle.report.specs.Summaries.{Walked, Summarised};
 
 use crate::complaints::Complaint;
-use crate::refused::{no_listing, no_program};
-use program::procedures::{Procedure, read_procedure};
-use program::programs;
+use crate::files::File;
+use crate::loaded::Loaded;
+use program::procedures::Procedure;
 use program::programs::Header;
+use program::walks::Procedures;
 use std::alloc::Global;
 use std::fmt;
-use syntax::decimal::{Listing, read_decimal};
 
 // So many things of a kind, as `1 step` or `4 steps`.
 #[derive(Clone, Copy)]
@@ -51,38 +49,27 @@ impl fmt::Display for Overview {
     }
 }
 
-// The procedures of a program that was read, which follow its first byte.
-fn procedures(heap: Global, bytes: &[u8], header: Header) -> Result<Vec<Procedure>, Complaint>
-    requires { ReadProgram bytes.now (Ok header) }
-    ensures { Walked bytes.now header result }
-{
-    let mut all = Vec::new(heap);
-    let mut at = 1;
-    for _i in 0..header.procs {
-        let Ok(procedure) = read_procedure(bytes, at, header.shared, header.procs) else {
-            unreachable()
-        };
-        all.push(procedure)?;
-        at = procedure.end;
+impl Loaded {
+    // Its procedures, in order.
+    fn procedures(&self, heap: Global) -> Result<Vec<Procedure>, Complaint>
+        ensures { Walked self.now.bytes.items self.now.header result }
+    {
+        let mut all = Vec::new(heap);
+        for procedure in Procedures::new(self.bytes.as_slice(), self.header) {
+            all.push(procedure)?;
+        }
+        Ok(all)
     }
-    Ok(all)
 }
 
 // What there is to tell of the program that `file` holds as `text`.
 pub fn summary(heap: Global, file: &str, text: &[u8]) -> Result<String, Complaint>
     ensures { Summarised text.now result }
 {
-    let listing = match read_decimal(heap, text) {
-        Ok(listing) => listing,
-        Err(fault) => return Err(no_listing(heap, file, text, fault)),
-    };
-    let header = match programs::read(listing.bytes.as_slice()) {
-        Ok(header) => header,
-        Err(refusal) => return Err(no_program(heap, file, &listing, refusal)),
-    };
+    let program = File { name: file, text }.load(heap)?;
     let overview = Overview {
-        header,
-        procedures: procedures(heap, listing.bytes.as_slice(), header)?,
+        header: program.header,
+        procedures: program.procedures(heap)?,
     };
     Ok(format!(in heap; "{overview}")?)
 }
@@ -90,6 +77,7 @@ pub fn summary(heap: Global, file: &str, text: &[u8]) -> Result<String, Complain
 #[cfg(test)]
 mod tests {
     use super::*;
+    use crate::complaints::shown;
     use std::test::Fail;
 
     #[test]
@@ -114,13 +102,8 @@ mod tests {
             ),
         ];
         for (text, expected) in cases {
-            match summary(rt.alloc(), "f", text.as_bytes()) {
-                Ok(told) => assert_eq!(rt; told.as_str(), expected),
-                Err(complaint) => assert_eq!(rt;
-                    complaint.to_string(rt.alloc())?.as_str(),
-                    expected
-                ),
-            }
+            let outcome = summary(rt.alloc(), "f", text.as_bytes());
+            assert_eq!(rt; shown(rt.alloc(), outcome)?.as_str(), expected);
         }
         Ok(())
     }

@@ -1,12 +1,9 @@
 // How many calls can wait at once, as `reach` tells it. Relies on `places` for the answer.
-ghost use Rattle.std.specs.Prelude.{Ok};
-ghost use Rattle.program.specs.Reading.{ReadProgram};
 ghost use Rattle.report.specs.Waits.{Waits};
 
 use crate::complaints::Complaint;
-use crate::memory::{MOST_MEMORY, needed};
+use crate::loaded::{Loaded, MOST_MEMORY};
 use places::{Deep, depth};
-use program::programs::Header;
 use std::alloc::Global;
 use std::fmt;
 
@@ -33,18 +30,19 @@ impl fmt::Display for Waiting {
     }
 }
 
-// How many calls of the program that the bytes are can wait at once.
-pub fn calls_waiting(heap: Global, bytes: &[u8], header: Header) -> Result<Waiting, Complaint>
-    requires { ReadProgram bytes.now (Ok header) }
-    ensures { Waits bytes.now result }
-{
-    let bytes_needed = needed(header, bytes.len());
-    if bytes_needed > MOST_MEMORY {
-        return Ok(Waiting::TooLarge(bytes_needed));
+impl Loaded {
+    // How many calls of it can wait at once.
+    pub fn calls_waiting(&self, heap: Global) -> Result<Waiting, Complaint>
+        ensures { Waits self.now.bytes.items result }
+    {
+        let memory = self.memory();
+        if memory > MOST_MEMORY {
+            return Ok(Waiting::TooLarge(memory));
+        }
+        let mut work = vec![in heap; 0u32; self.header.work]?;
+        let Deep::AtMost(most) = depth(self.bytes.as_slice(), work.as_mut_slice()) else {
+            return Ok(Waiting::Endless);
+        };
+        Ok(Waiting::AtMost(most))
     }
-    let mut work = vec![in heap; 0u32; header.work]?;
-    let Deep::AtMost(most) = depth(bytes, work.as_mut_slice()) else {
-        return Ok(Waiting::Endless);
-    };
-    Ok(Waiting::AtMost(most))
 }

@@ -1,4 +1,4 @@
--- `decide_source`: the bytes are the program that the tree means.
+-- `decide`: the bytes are the program that the tree means.
 use Rattle.std.proofs.Common.{ℕ, List, Ok, Err, Result}
 use Rattle.program.specs.Rows.{Reads}
 use Rattle.tree.specs.declared.programs.Tree.{Tree}
@@ -7,11 +7,11 @@ use Rattle.report.specs.declared.complaints.Complaint.{Complaint}
 use Rattle.answers.specs.declared.deciding.Decided.{Decided}
 use Rattle.answers.specs.Deciding.{DecidedOf}
 use Rattle.answers.specs.Sources.{DecidedTree}
-use Rattle.answers.proofs.sources.decide_source.Goals as goal
+use Rattle.answers.proofs.sources.Written.decide.Goals as goal
 
 decided_tree : (t : Tree) (s : List ℕ) (r : Result Decided Complaint) → Reads s (meaning t) → DecidedOf s r → DecidedTree t r
 decided_tree t s (Ok d) q h = h (meaning t) q
 decided_tree t s (Err c) q h = tt
 
 pub returns : goal.returns
-returns c = decided_tree c.args.source.now.tree _ c.decide_bytes.result c.in_ok-bytes.ensures c.decide_bytes.ensures
+returns c = decided_tree c.args.self.now.source.tree _ c.new.result c.in_ok-bytes.ensures c.new.ensures

@@ -3,7 +3,7 @@ use Rattle.std.proofs.Common.{◌≡◌, ℕ, ◌<◌, true, false, ◌↔◌, l
 use Rattle.program.specs.Program.{Prog}
 use Rattle.answers.specs.Deciding.{Holds}
 use Rattle.answers.specs.Looking.{Comes}
-use Rattle.answers.proofs.reached.reached_places.Given as goal
+use Rattle.answers.proofs.deciding.Decided.reached_places.Given as goal
 
 abbrev pub invariant-loop-place : goal.invariant-loop-place
-invariant-loop-place l = (length (vec_items l.flags) ≡ l.place) × ((g : Prog) → Holds g l.decided → (a : ℕ) → a < l.place → (get_or (vec_items l.flags) a false ≡ true) ↔ Comes g l.f a (λ v. Unit {0}))
+invariant-loop-place l = (length (vec_items l.flags) ≡ l.place) × ((g : Prog) → Holds g l.self → (a : ℕ) → a < l.place → (get_or (vec_items l.flags) a false ≡ true) ↔ Comes g l.f a (λ v. Unit {0}))
