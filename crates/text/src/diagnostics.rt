@@ -115,8 +115,8 @@ pub enum Wrong {
 fn show_unknown<W: fmt::Write>(
     f: &mut fmt::Formatter<W>,
     thing: Thing,
-    name: &String,
-    nearest: &Option<String>,
+    name: &str,
+    nearest: Option<&String>,
 ) -> fmt::Result {
     write!(f, "no {thing} \"{name}\" here")?;
     match nearest {
@@ -144,7 +144,7 @@ impl fmt::Display for Wrong {
                 thing,
                 name,
                 nearest,
-            } => show_unknown(f, *thing, name, nearest),
+            } => show_unknown(f, *thing, name.as_str(), nearest.as_ref()),
             Wrong::TooManyVariables(Level::Shared) => write!(
                 f,
                 "there may be at most {MOST_VARIABLES} shared variables"

@@ -1,7 +1,7 @@
 // The bytes of a program as a text: shared variables s0, s1 and so on, own ones v0, procedures p0, and
 // a label L3 at place 3 where some step goes there. Parsed and encoded, the text gives the bytes again
-// (this is tested), unless its parentheses nest deeper than the parser allows. Relies on `program` for
-// reading bytes.
+// (tested for programs that have each kind of step and of expression), unless its parentheses nest
+// deeper than the parser allows. Relies on `program` for reading bytes.
 use program::kinds::ExpressionKind;
 use program::procedures::Procedure;
 use program::programs::{Header, read};
