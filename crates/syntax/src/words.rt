@@ -26,7 +26,8 @@ fn word_len(rest: &[u8]) -> usize
     rest.iter().take_while(|b| !ends_word(**b)).count()
 }
 
-// How many bytes of `rest` come before its first word.
+// How many bytes of `rest` come before its first word. Within, `scan` carries whether the byte is part
+// of a comment: an enum of two cases is no plainer than the flag.
 fn gap_len(rest: &[u8]) -> usize
     ensures within { result ≤ length rest.now }
     ensures lists { words [] (uncomment false rest.now) ≡ words [] (uncomment false (drop result rest.now)) }

@@ -33,12 +33,17 @@ impl<'t, 'k> Cursor<'t, 'k> {
         }
     }
 
+    // The token that stands so many further on.
+    fn ahead(&self, tokens: usize) -> Token {
+        self.rest.get(tokens).copied().unwrap_or(self.finish)
+    }
+
     pub fn peek(&self) -> Token {
-        self.rest.first().copied().unwrap_or(self.finish)
+        self.ahead(0)
     }
 
     pub fn peek_second(&self) -> Token {
-        self.rest.get(1).copied().unwrap_or(self.finish)
+        self.ahead(1)
     }
 
     pub fn word(&self, token: Token) -> &'t [u8] {

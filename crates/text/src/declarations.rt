@@ -4,7 +4,7 @@ ghost use Rattle.text.specs.Cursor.{GoesOn};
 
 use crate::cursor::Cursor;
 use crate::diagnostics::{Expected, Level, Stop, Thing, Wrong};
-use crate::names::find;
+use crate::names::{find, find_variable};
 use crate::tokens::{Kind, Token};
 use program::procedures::MOST_VARIABLES;
 use std::alloc::AllocError;
@@ -37,7 +37,7 @@ impl<'t, 'k, 'o> Declarations<'t, 'k, 'o> {
         ensures { self.new.cursor ≡ self.old.cursor }
     {
         let word = self.cursor.word(token);
-        if find(self.outer, word).is_some() || find(&self.names, word).is_some() {
+        if find_variable(self.outer, &self.names, word).is_some() {
             return self.cursor.taken(Thing::Variable, token);
         }
         if self.names.len() >= MOST_VARIABLES {

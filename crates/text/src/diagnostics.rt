@@ -1,15 +1,15 @@
 // What is wrong with a text, and where. Each is shown as one sentence without the file's name. Relies
-// on `tokens` for positions, and on `program` for limits.
+// on `tokens` for positions, and on `expressions`, `program` and `tree` for limits.
 ghost use Rattle.std.specs.Prelude.{◌≡◌};
 ghost use Rattle.text.specs.declared.diagnostics.Stop.TheVariants.{Memory};
 
 use crate::expressions::{MOST_DEPTH, MOST_OPERATORS};
-use crate::procedures::MOST_STATEMENTS;
 use crate::tokens::Spot;
 use program::procedures::MOST_VARIABLES;
 use program::programs::MOST_PROCEDURES;
 use std::alloc::{AllocError, AllocFailed};
 use std::fmt;
+use tree::limits::MOST_STATEMENTS;
 
 // What could stand where something else was found.
 #[derive(Clone, Copy, PartialEq, Eq, Debug)]
@@ -111,6 +111,20 @@ pub enum Wrong {
     NoProcedure,
 }
 
+// That nothing has such a name, and what has the nearest.
+fn show_unknown<W: fmt::Write>(
+    f: &mut fmt::Formatter<W>,
+    thing: Thing,
+    name: &str,
+    nearest: Option<&String>,
+) -> fmt::Result {
+    write!(f, "no {thing} \"{name}\" here")?;
+    match nearest {
+        Some(known) => write!(f, "; did you mean \"{known}\"?"),
+        None => Ok(()),
+    }
+}
+
 impl fmt::Display for Wrong {
     fn fmt<W: fmt::Write>(&self, f: &mut fmt::Formatter<W>) -> fmt::Result {
         match self {
@@ -130,22 +144,15 @@ impl fmt::Display for Wrong {
                 thing,
                 name,
                 nearest,
-            } => {
-                write!(f, "no {thing} \"{name}\" here")?;
-                match nearest {
-                    Some(known) => write!(f, "; did you mean \"{known}\"?"),
-                    None => Ok(()),
-                }
-            }
-            Wrong::TooManyVariables(Level::Shared) => {
-                write!(f, "there may be at most {MOST_VARIABLES} shared variables")
-            }
-            Wrong::TooManyVariables(Level::Own) => {
-                write!(
-                    f,
-                    "a procedure may have at most {MOST_VARIABLES} variables of its own"
-                )
-            }
+            } => show_unknown(f, *thing, name.as_str(), nearest.as_ref()),
+            Wrong::TooManyVariables(Level::Shared) => write!(
+                f,
+                "there may be at most {MOST_VARIABLES} shared variables"
+            ),
+            Wrong::TooManyVariables(Level::Own) => write!(
+                f,
+                "a procedure may have at most {MOST_VARIABLES} variables of its own"
+            ),
             Wrong::TooManyProcedures => write!(
                 f,
                 "there may be at most {MOST_PROCEDURES} procedures"
@@ -175,7 +182,8 @@ impl fmt::Display for Diagnostic {
     }
 }
 
-// Why parsing stops: something is wrong, or memory is short.
+// Why parsing stops: something is wrong, or memory is short. An `Option` is no plainer: its `None` would
+// mean the latter, and no `?` makes it of an allocator's error.
 #[derive(Drop)]
 pub enum Stop {
     Wrong(Diagnostic),
@@ -192,6 +200,8 @@ impl Stop {
     }
 }
 
+// By hand: the derive of `thiserror` is no plainer, since it asks for a message of each case and for an
+// error in `Memory`.
 impl From<AllocError> for Stop {
     ghost from_gives = { λ _ r. r ≡ Memory };
 

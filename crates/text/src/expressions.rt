@@ -1,6 +1,7 @@
 // Expressions of a text. From the tightest: `!`, then `=` and `!=`, which do not chain, then `&`, then
-// `|`. Each function reads one level, and calls the next tighter one; parentheses nest at most
-// MOST_DEPTH deep, which bounds the stack. Relies on `reader`.
+// `|`. The levels of `&` and `|` are read by one function, and each other by one of its own, which calls
+// the next tighter one; parentheses nest at most MOST_DEPTH deep, which bounds the stack. Relies on
+// `reader`.
 ghost use Rattle.std.specs.Prelude.{IfOk, IsTrue};
 ghost use Rattle.text.specs.Cursor.{GoesOn, GoesPast};
 
@@ -39,6 +40,22 @@ impl Operator {
     }
 }
 
+// An operator that compares.
+#[derive(Clone, Copy)]
+enum Comparison {
+    Equal,
+    Differ,
+}
+
+impl Comparison {
+    fn join(self, left: Box<Expr>, right: Box<Expr>) -> Expr {
+        match self {
+            Comparison::Equal => Expr::Equal(left, right),
+            Comparison::Differ => Expr::Differ(left, right),
+        }
+    }
+}
+
 // `count` times not `expr`.
 fn negated(heap: Global, count: usize, expr: Expr) -> Result<Expr, AllocError> {
     let mut whole = expr;
@@ -64,7 +81,20 @@ impl Reader<'_, '_, '_> {
         Ok(true)
     }
 
-    // Goes past `!`s, and counts them.
+    // The operator that compares here, if one does; goes on behind it.
+    fn accept_comparison(&mut self) -> Result<Option<Comparison>, Stop>
+        ensures { GoesOn self.old.cursor self.new.cursor }
+    {
+        if self.accept_operator(Kind::Equal)? {
+            Ok(Some(Comparison::Equal))
+        } else if self.accept_operator(Kind::Differ)? {
+            Ok(Some(Comparison::Differ))
+        } else {
+            Ok(None)
+        }
+    }
+
+    // Goes past `!`s, and counts them: each may be refused, which an iterator's `count` does not pass on.
     fn negations(&mut self) -> Result<usize, Stop>
         ensures { GoesOn self.old.cursor self.new.cursor }
     {
@@ -124,22 +154,16 @@ impl Reader<'_, '_, '_> {
     {
         let heap = self.cursor.heap;
         let left = self.operand(depth)?;
-        let equal = self.accept_operator(Kind::Equal)?;
-        if !equal && !self.accept_operator(Kind::Differ)? {
+        let Some(comparison) = self.accept_comparison()? else {
             return Ok(left);
-        }
+        };
         let right = self.operand(depth)?;
         let next = self.cursor.peek();
         if matches!(next.kind, Kind::Equal | Kind::Differ) {
             return Err(Stop::new(next.spot, Wrong::Chained));
         }
         let left = Box::new(heap, left)?;
-        let right = Box::new(heap, right)?;
-        Ok(if equal {
-            Expr::Equal(left, right)
-        } else {
-            Expr::Differ(left, right)
-        })
+        Ok(comparison.join(left, Box::new(heap, right)?))
     }
 
     // What stands between two of these operators.

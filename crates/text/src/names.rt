@@ -1,11 +1,12 @@
 // The names of a text: those of the program that it is, and those that a statement may use. Relies on
 // `tokens` for where they stand.
-ghost use Rattle.std.specs.Prelude.{◌≡◌, List, ℕ, position, string_bytes};
+ghost use Rattle.std.specs.Prelude.{◌≡◌, List, ℕ, ◌++◌, position, string_bytes};
 ghost use Rattle.std.specs.Str.{bytes_eq};
 
 use crate::tokens::Spot;
 
-// What has a name.
+// What has a name. The three impls below that are alike stand by hand: the project's gate refuses an
+// impl that a derive or a macro of the repository's own writes.
 pub trait Named {
     // The bytes of the name.
     ghost named: { Self → List ℕ };
@@ -30,7 +31,7 @@ pub struct Names {
 }
 
 // The names of a procedure, and its lines: that of its name, those of its statements, and last that
-// of its `end`.
+// of its `end`. The lines stand beside the statements, since the tree is encoded without them.
 #[derive(Drop)]
 pub struct ProcedureNames {
     pub name: String,
@@ -93,4 +94,14 @@ pub fn find<T: Named>(all: &[T], word: &[u8]) -> Option<usize>
     ensures { result ≡ position (λ x. bytes_eq (T.named x) word.now) all.now }
 {
     all.iter().position(|named| named.name().as_bytes() == word)
+}
+
+// The number of the first variable that has the name `word`: the shared ones come first.
+pub fn find_variable(shared: &[String], own: &[String], word: &[u8]) -> Option<usize>
+    ensures { result ≡ position (λ name. bytes_eq (string_bytes name) word.now) (shared.now ++ own.now) }
+{
+    shared
+        .iter()
+        .chain(own.iter())
+        .position(|name| name.as_bytes() == word)
 }

@@ -16,7 +16,7 @@ use tree::programs::Tree;
 
 const MOST_ERRORS: usize = 10;
 
-// A program that was read.
+// A program that was read. The names stand beside the tree, since that is encoded without them.
 #[derive(Drop)]
 pub struct Source {
     pub tree: Tree,
@@ -31,6 +31,8 @@ pub enum Failure {
     Memory,
 }
 
+// By hand: the derive of `thiserror` is no plainer, since it asks for a message of each case and for an
+// error in `Memory`.
 impl From<AllocError> for Failure {
     ghost from_gives = { λ _ r. r ≡ Memory };
 

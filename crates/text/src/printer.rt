@@ -1,7 +1,7 @@
 // The bytes of a program as a text: shared variables s0, s1 and so on, own ones v0, procedures p0, and
 // a label L3 at place 3 where some step goes there. Parsed and encoded, the text gives the bytes again
-// (this is tested), unless its parentheses nest deeper than the parser allows. Relies on `program` for
-// reading bytes.
+// (tested for programs that have each kind of step and of expression), unless its parentheses nest
+// deeper than the parser allows. Relies on `program` for reading bytes.
 use program::kinds::ExpressionKind;
 use program::procedures::Procedure;
 use program::programs::{Header, read};
@@ -11,8 +11,9 @@ use std::alloc::{AllocError, Global};
 use std::fmt;
 
 // An operator that waits for an operand: the one of `!`, the left one of `&`, or the right one, with
-// whether it stands in parentheses. These are kept in a Vec, since a function that calls itself for each
-// operand was tried, and runs out of stack at the deepest programs where it is not optimized.
+// whether it stands in parentheses. These are kept in a Vec: the plainer way, a function that calls
+// itself for each operand, was tried, and fails at the deepest programs that this one prints, where it
+// is not optimized: there is no room on the stack.
 #[derive(Clone, Copy)]
 enum Waiting {
     Not,
@@ -23,13 +24,14 @@ enum Waiting {
 // The bytes of the expression that a step has, or none.
 fn expr_row(bytes: &[u8], found: Found) -> &[u8] {
     match found.step {
-        Step::Set { expr, .. } | Step::Go { expr, .. }
-            if expr.0 <= found.end && found.end <= bytes.len() => { &bytes[expr.0..found.end] }
+        Step::Set { expr, .. } | Step::Go { expr, .. } => {
+            bytes.get(expr.0..found.end).unwrap_or(&[])
+        }
         _ => &[],
     }
 }
 
-// How a step that goes from `place` is written.
+// The statements that a step `Go` can be written as.
 #[derive(Clone, Copy, PartialEq, Eq, Debug)]
 enum Jump {
     Skip,

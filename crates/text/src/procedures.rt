@@ -1,4 +1,4 @@
-// Procedures of a text. Relies on `declarations`, `statements` and `names`.
+// Procedures of a text. Relies on `declarations`, `reader`, `statements` and `names`.
 ghost use Rattle.std.specs.Prelude.{◌≡◌, ◌+◌, ◌≤◌, IfOk, vec_len};
 
 use crate::cursor::Cursor;
@@ -8,9 +8,8 @@ use crate::names::{Heading, Label, ProcedureNames, Scope, find};
 use crate::reader::Reader;
 use crate::tokens::{Kind, Token};
 use std::alloc::AllocError;
+use tree::limits::MOST_STATEMENTS;
 use tree::programs::{Procedure, Statement};
-
-pub const MOST_STATEMENTS: usize = 255;
 
 // The names behind each `void`, in order.
 pub fn list_headings(cursor: &Cursor) -> Result<Vec<Heading>, AllocError> {
@@ -26,7 +25,8 @@ pub fn list_headings(cursor: &Cursor) -> Result<Vec<Heading>, AllocError> {
     Ok(headings)
 }
 
-// The labels up to the next `void`, where `cursor` stands behind the declarations of a procedure.
+// The labels up to the next `void`, where `cursor` stands behind the declarations of a procedure. The
+// place is counted by hand: it is how many `;` came before, and not the number of a token.
 fn list_labels(cursor: &Cursor) -> Result<Vec<Label>, AllocError> {
     let mut labels = Vec::new(cursor.heap);
     let mut place: usize = 0;
@@ -45,7 +45,8 @@ fn list_labels(cursor: &Cursor) -> Result<Vec<Label>, AllocError> {
     Ok(labels)
 }
 
-// The statements of a procedure, with the line of each and last that of `end`.
+// The statements of a procedure, with the line of each and last that of `end`. A Vec of pairs is no
+// plainer: the tree is encoded without lines, and there is a line more than statements.
 #[derive(Drop)]
 struct Body {
     statements: Vec<Statement>,
@@ -77,14 +78,15 @@ impl Reader<'_, '_, '_> {
         loop {
             self.skip_labels()?;
             let first = self.cursor.peek();
-            lines.push(first.spot.line)?;
             if self.cursor.accept(Kind::End) {
+                lines.push(first.spot.line)?;
                 return Ok(Body { statements, lines });
             }
             if statements.len() >= MOST_STATEMENTS {
                 return Err(Stop::new(first.spot, Wrong::TooManyStatements));
             }
             statements.push(self.statement()?)?;
+            lines.push(first.spot.line)?;
         }
     }
 }

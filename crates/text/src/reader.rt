@@ -2,7 +2,7 @@
 // `cursor` and `names`.
 use crate::cursor::Cursor;
 use crate::diagnostics::{Stop, Thing};
-use crate::names::{Scope, find};
+use crate::names::{Scope, find, find_variable};
 use crate::tokens::Token;
 use tree::programs::{PlaceNo, ProcNo, VarNo};
 
@@ -25,17 +25,14 @@ impl<'t, 'k, 's> Reader<'t, 'k, 's> {
 
     // The variable that `token` names: the shared ones come first.
     pub fn variable(&self, token: Token) -> Result<VarNo, Stop> {
-        let word = self.cursor.word(token);
         let shared = self.scope.shared;
         let own = self.scope.own;
-        if let Some(number) = find(shared, word) {
-            return Ok(VarNo(number));
+        match find_variable(shared, own, self.cursor.word(token)) {
+            Some(number) => Ok(VarNo(number)),
+            None => self
+                .cursor
+                .unknown(Thing::Variable, token, shared.iter().chain(own.iter())),
         }
-        if let Some(number) = find(own, word) {
-            return Ok(VarNo(number.saturating_add(shared.len())));
-        }
-        let known = shared.iter().chain(own.iter());
-        self.cursor.unknown(Thing::Variable, token, known)
     }
 
     // The place of the label that `token` names.

@@ -1,12 +1,13 @@
 // Why a tree is not encoded, as a sentence with the names and lines of the text that it came from.
 // Relies on `tree` for the faults, and on `names`.
 use crate::names::Names;
-use crate::procedures::MOST_STATEMENTS;
 use program::procedures::MOST_VARIABLES;
 use program::programs::{MOST_BYTES, MOST_PROCEDURES};
 use std::fmt;
 use tree::faults::{Fault, Position};
-use tree::programs::{PlaceNo, ProcNo, VarNo};
+use tree::limits::MOST_STATEMENTS;
+use tree::programs::ProcNo;
+use tree::sizes::COUNTED;
 
 // A fault of the tree that a text with these names was parsed to.
 #[derive(Clone, Copy)]
@@ -63,88 +64,78 @@ impl fmt::Display for Located<'_> {
     }
 }
 
+// That there are more of such things in a program than may be.
+fn show_too_many<W: fmt::Write>(
+    f: &mut fmt::Formatter<W>,
+    count: usize,
+    things: &str,
+    most: usize,
+) -> fmt::Result {
+    write!(f, "there are {count} {things}, and may be at most {most}")
+}
+
 impl Refusal<'_> {
-    fn procedure(&self, procedure: ProcNo) -> Named<'_> {
-        Named {
-            procedure,
-            names: self.names,
-        }
+    // That a procedure has more of such things than it may.
+    fn show_too_large<W: fmt::Write>(
+        &self,
+        f: &mut fmt::Formatter<W>,
+        procedure: ProcNo,
+        count: usize,
+        things: &str,
+        most: usize,
+    ) -> fmt::Result {
+        let names = self.names;
+        let procedure = Named { procedure, names };
+        write!(
+            f,
+            "{procedure} has {count} {things}, and may have at most {most}"
+        )
     }
 
-    fn statement(&self, at: Position) -> Located<'_> {
-        Located {
-            at,
-            names: self.names,
-        }
+    // That a statement names such a thing, and there is none of this number.
+    fn show_missing<W: fmt::Write>(
+        &self,
+        f: &mut fmt::Formatter<W>,
+        at: Position,
+        thing: &str,
+        number: usize,
+    ) -> fmt::Result {
+        let names = self.names;
+        let statement = Located { at, names };
+        write!(f, "{statement}: there is no {thing} {number}")
     }
 }
 
 impl fmt::Display for Refusal<'_> {
     fn fmt<W: fmt::Write>(&self, f: &mut fmt::Formatter<W>) -> fmt::Result {
         match self.fault {
-            Fault::TooManyShared(shared) => {
-                write!(
-                    f,
-                    "there are {shared} shared variables, and may be at most {MOST_VARIABLES}"
-                )
+            Fault::TooManyShared(count) => {
+                show_too_many(f, count, "shared variables", MOST_VARIABLES)
             }
             Fault::NoProcedure => f.write_str("there is no procedure"),
-            Fault::TooManyProcedures(procedures) => {
-                write!(
-                    f,
-                    "there are {procedures} procedures, and may be at most {MOST_PROCEDURES}"
-                )
+            Fault::TooManyProcedures(count) => {
+                show_too_many(f, count, "procedures", MOST_PROCEDURES)
             }
             Fault::TooManyOwn { procedure, own } => {
-                let procedure = self.procedure(procedure);
-                write!(
-                    f,
-                    "{procedure} has {own} variables of its own, and may have at most {MOST_VARIABLES}"
-                )
+                self.show_too_large(f, procedure, own, "variables of its own", MOST_VARIABLES)
             }
             Fault::TooManyStatements {
                 procedure,
                 statements,
-            } => {
-                let procedure = self.procedure(procedure);
-                write!(
-                    f,
-                    "{procedure} has {statements} statements, and may have at most {MOST_STATEMENTS}"
-                )
+            } => self.show_too_large(f, procedure, statements, "statements", MOST_STATEMENTS),
+            Fault::NoSuchVariable { at, var } => self.show_missing(f, at, "variable", var.0),
+            Fault::NoSuchPlace { at, place } => self.show_missing(f, at, "place", place.0),
+            Fault::NoSuchProcedure { at, callee } => {
+                self.show_missing(f, at, "procedure", callee.0)
             }
-            Fault::NoSuchVariable {
-                at,
-                var: VarNo(number),
-            } => {
-                let statement = self.statement(at);
-                write!(f, "{statement}: there is no variable {number}")
-            }
-            Fault::NoSuchPlace {
-                at,
-                place: PlaceNo(number),
-            } => {
-                let statement = self.statement(at);
-                write!(f, "{statement}: there is no place {number}")
-            }
-            Fault::NoSuchProcedure {
-                at,
-                callee: ProcNo(number),
-            } => {
-                let statement = self.statement(at);
-                write!(f, "{statement}: there is no procedure {number}")
-            }
-            Fault::TooLong(bytes) if bytes >= 1_000_000 => {
-                write!(
-                    f,
-                    "the program takes a million bytes or more, and may take at most {MOST_BYTES}"
-                )
-            }
-            Fault::TooLong(bytes) => {
-                write!(
-                    f,
-                    "the program takes {bytes} bytes, and may take at most {MOST_BYTES}"
-                )
-            }
+            Fault::TooLong(bytes) if bytes >= COUNTED => write!(
+                f,
+                "the program takes a million bytes or more, and may take at most {MOST_BYTES}"
+            ),
+            Fault::TooLong(bytes) => write!(
+                f,
+                "the program takes {bytes} bytes, and may take at most {MOST_BYTES}"
+            ),
             Fault::Memory => f.write_str("there is not enough memory"),
         }
     }

@@ -1,4 +1,5 @@
-// Statements of a text, one at a time, without the labels before them. Relies on `expressions`.
+// Statements of a text, one at a time, without the labels before them. Relies on `reader`
+// and `expressions`.
 use crate::diagnostics::{Expected, Stop};
 use crate::reader::Reader;
 use crate::tokens::Kind;

@@ -319,28 +319,31 @@ fn faults(rt: HostRuntime) -> Result<(), Fail> {
     Ok(())
 }
 
+// Whether a text is parsed and encoded to these bytes.
+fn gives(heap: Global, text: &str, bytes: &[u8]) -> Result<bool, AllocError> {
+    let wanted = format!(in heap; "{bytes:?}")?;
+    Ok(outcome(heap, text)?.as_str() == wanted.as_str())
+}
+
 #[test]
 fn printed(rt: HostRuntime) -> Result<(), Fail> {
     let heap = rt.alloc();
     assert!(rt; print(heap, &[7])?.is_none());
-    let empty = print(heap, &[0, 0, 0])?.ok_or("no program")?;
+    let bytes = [0, 0, 0];
+    let empty = print(heap, &bytes)?.ok_or("no program")?;
     assert_eq!(rt; empty.as_str(), "void p0() begin\nend\n");
-    let nested = print(
-        heap,
-        &[2, 0, 1, 0, 0, 3, 3, 1, 0, 1, 1, 3, 2, 3, 0, 1, 0, 2, 2, 0],
-    )?
-    .ok_or("no program")?;
+    assert!(rt; gives(heap, empty.as_str(), &bytes)?);
+    let bytes = [2, 0, 1, 0, 0, 3, 3, 1, 0, 1, 1, 3, 2, 3, 0, 1, 0, 2, 2, 0];
+    let nested = print(heap, &bytes)?.ok_or("no program")?;
     assert_eq!(rt;
         nested.as_str(),
         "decl s0, s1;\n\nvoid p0() begin\n    s0 := s0 & s1 & (!(1 & s0) & !!1);\nend\n"
     );
-    let ring = print(
-        heap,
-        &[
-            1, 0, 1, 3, 1, 1, 7, 1, 1, 2, 3, 1, 1, 3, 1, 0, 0, 2, 1, 0, 2, 5, 0, 2, 7, 0, 4,
-        ],
-    )?
-    .ok_or("no program")?;
+    assert!(rt; gives(heap, nested.as_str(), &bytes)?);
+    let bytes = [
+        1, 0, 1, 3, 1, 1, 7, 1, 1, 2, 3, 1, 1, 3, 1, 0, 0, 2, 1, 0, 2, 5, 0, 2, 7, 0, 4,
+    ];
+    let ring = print(heap, &bytes)?.ok_or("no program")?;
     assert_eq!(rt;
         ring.as_str(),
         "decl s0;
@@ -363,6 +366,7 @@ L7:
 end
 "
     );
+    assert!(rt; gives(heap, ring.as_str(), &bytes)?);
     Ok(())
 }
 

@@ -52,10 +52,6 @@ pub struct Token {
 impl Token {
     // The bytes of the token in its text.
     pub fn word<'a>(&self, text: &'a [u8]) -> &'a [u8] {
-        if self.start <= self.end && self.end <= text.len() {
-            &text[self.start..self.end]
-        } else {
-            &text[0..0]
-        }
+        text.get(self.start..self.end).unwrap_or(&[])
     }
 }

@@ -37,7 +37,7 @@ pub enum Fault {
         at: Position,
         callee: ProcNo,
     },
-    // How many bytes it would take.
+    // How many bytes it would take, which `sizes` counts up to COUNTED.
     TooLong(usize),
     Memory,
 }

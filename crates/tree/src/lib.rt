@@ -5,9 +5,9 @@
 
 pub mod encoding;
 pub mod faults;
-mod limits;
+pub mod limits;
 pub mod programs;
-mod sizes;
+pub mod sizes;
 #[cfg(test)]
 mod tests;
 mod writing;

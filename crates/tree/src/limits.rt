@@ -10,12 +10,14 @@ use crate::programs::{Expr, PlaceNo, ProcNo, Procedure, Statement, Tree, VarNo};
 use program::procedures::MOST_VARIABLES; // shared, and as many of a procedure's own
 use program::programs::MOST_PROCEDURES;
 
-pub const MOST_STATEMENTS: usize = u8::MAX as usize; // a byte tells how many there are
+// Of a procedure: a byte tells how many there are.
+pub const MOST_STATEMENTS: usize = u8::MAX as usize;
 
 // What the statements of a procedure may name: variables below `vars`, places up to `statements`,
-// the one behind the last statement, and procedures below `procedures`.
+// the one behind the last statement, and procedures below `procedures`. One type for this and for the
+// `Scope` of `program` is no plainer: the places of that are bytes, and those of a tree not yet.
 #[derive(Clone, Copy)]
-pub struct Scope {
+pub(crate) struct Scope {
     pub vars: usize,
     pub statements: usize,
     pub procedures: usize,
@@ -29,10 +31,17 @@ struct Site {
 }
 
 // That a limit is kept; else the fault.
-pub fn check(kept: bool, fault: Fault) -> Result<(), Fault>
+fn check(kept: bool, fault: Fault) -> Result<(), Fault>
     ensures { MatchResult result (λ _. kept ≡ true) (λ _. kept ≡ false) }
 {
     if kept { Ok(()) } else { Err(fault) }
+}
+
+// There are at most so many; else the fault.
+pub(crate) fn check_most(count: usize, most: usize, fault: Fault) -> Result<(), Fault>
+    ensures { MatchResult result (λ _. count ≤ most) (λ _. most < count) }
+{
+    if count <= most { Ok(()) } else { Err(fault) }
 }
 
 impl Site {
@@ -124,13 +133,13 @@ fn check_procedure(tree: &Tree, number: ProcNo, procedure: &Procedure) -> Result
         procedure: number,
         own,
     };
-    check(own <= MOST_VARIABLES, too_many_own)?;
+    check_most(own, MOST_VARIABLES, too_many_own)?;
     let statements = procedure.body.len();
     let too_many_statements = Fault::TooManyStatements {
         procedure: number,
         statements,
     };
-    check(statements <= MOST_STATEMENTS, too_many_statements)?;
+    check_most(statements, MOST_STATEMENTS, too_many_statements)?;
     let scope = Scope {
         vars: tree.shared + own,
         statements,
@@ -150,13 +159,13 @@ fn check_procedures(tree: &Tree) -> Result<(), Fault>
 }
 
 // The number of shared variables and of procedures, and each procedure.
-pub fn check_tree(tree: &Tree) -> Result<(), Fault>
+pub(crate) fn check_tree(tree: &Tree) -> Result<(), Fault>
     ensures { Tells (Kept (meaning tree.now)) result }
 {
     let shared = tree.shared;
-    check(shared <= MOST_VARIABLES, Fault::TooManyShared(shared))?;
+    check_most(shared, MOST_VARIABLES, Fault::TooManyShared(shared))?;
     check(!tree.procedures.is_empty(), Fault::NoProcedure)?;
     let count = tree.procedures.len();
-    check(count <= MOST_PROCEDURES, Fault::TooManyProcedures(count))?;
+    check_most(count, MOST_PROCEDURES, Fault::TooManyProcedures(count))?;
     check_procedures(tree)
 }

@@ -67,7 +67,7 @@ fn procedures_size(procedures: &[Procedure]) -> usize
 }
 
 // The bytes of a whole program.
-pub fn tree_size(tree: &Tree) -> usize
+pub(crate) fn tree_size(tree: &Tree) -> usize
     ensures { result ≡ counted (length (row (meaning tree.now))) }
 {
     add(1, procedures_size(&tree.procedures))

@@ -1,6 +1,7 @@
 // The bytes of a tree that keeps the limits, written behind what a Vec holds. Each function says that
 // it adds exactly the row of what its part of the tree means, as `program` has it. Where memory
-// fails, nothing is said of what was added.
+// fails, nothing is said of what was added. The limits show that each number fits its byte, so these are
+// written by `as u8`: a `try_from` would add a refusal that cannot come.
 ghost use Rattle.std.specs.Prelude.{map, OnOk};
 ghost use Rattle.program.specs.Rows.{row_e, row_i, row_p, rows, OkE, OkI, OkP, Every};
 ghost use Rattle.tree.specs.Adds.{Adds};
