@@ -7,15 +7,6 @@ use Rattle.places.proofs.settling.settle.Goals as goal
 pub divide-words-requires : goal.divide-words-requires
 divide-words-requires c = let e = (read_one c.args.program.read).1 in omega (arith, wanted e _ refl, e.header.work, c.requires.room)
 
-pub write_words-count-requires-clause-bases : goal.write_words-count-requires-clause-bases
-write_words-count-requires-clause-bases c = simp length-take (omega (arith, c.requires.bases))
-
-pub write_words-count-requires-clause-starts : goal.write_words-count-requires-clause-starts
-write_words-count-requires-clause-starts c = simp length-take (omega (arith, c.requires.starts))
-
-pub write_words-count-requires-clause-words : goal.write_words-count-requires-clause-words
-write_words-count-requires-clause-words c = c.divide-words.ensures.words
-
 pub write_words-count-requires-clause-sites : goal.write_words-count-requires-clause-sites
 write_words-count-requires-clause-sites c = λ g e. omega (arith, wanted e _ refl, e.header.work, c.requires.room, c.divide-words.ensures.sites)
 
