@@ -9,7 +9,7 @@ use program::expressions::evaluate;
 use program::steps::Step;
 use program::values::put_bit;
 
-// The call places of a procedure, by their numbers: those at `from` and on, before `until`.
+// The call places of a procedure, by their numbers: those at `from` and on, before `until`. A `Range` is not `Copy`.
 #[derive(Clone, Copy)]
 pub struct Callers {
     pub from: u32,
@@ -17,7 +17,8 @@ pub struct Callers {
 }
 
 // What a node does: it flows on to one of two nodes; it calls the procedure that begins at a node, while
-// another waits; or it returns to where its procedure was called.
+// another waits; or it returns to where its procedure was called. The engine that reads the words has an enum of its own
+// for them, since this crate must not know how they are used.
 #[derive(Clone, Copy)]
 pub enum Action {
     Flow { first: u32, second: u32 },
@@ -91,7 +92,8 @@ pub fn write_node(words: &mut [u32], n: usize, node: Node)
     words[4 * n + 3] = node.base;
 }
 
-// What the node of `place` with these values does, where `step` stands, or none behind the last step.
+// What the node of `place` with these values does, where `step` stands, or none behind the last step. Here, below and in
+// `expand_place`, `PlaceIs` is asked: as a ghost field of a struct of the three it would be asked of who only makes a place.
 fn action_of(body: Body, step: Option<Step>, place: Place, values: u32) -> Action
     requires { (g : Prog) × (f : ℕ) × (p : Proc) × (a : ℕ) × PlaceIs body.source step place g f p a × (values < 2 ^ (g.shared + p.own)) }
     ensures { NodeIs body.entry.source step place body.entry.callers values (record { action = result; base = place.base }) }

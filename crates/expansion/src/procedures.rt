@@ -8,7 +8,8 @@ use crate::nodes::{Body, Place};
 use crate::places::expand_place;
 use program::procedures::Procedure;
 
-// Writes the nodes of the procedure that was read as `procedure`, which begins at place `start`.
+// Writes the nodes of the procedure that was read as `procedure`, which begins at place `start`. The words are lent, so
+// a clause asks for their length.
 pub fn expand_procedure(body: Body, procedure: Procedure, start: Place, words: &mut [u32])
     requires { (g : Prog) × (f : ℕ) × (p : Proc) × ProcIs body.source procedure start g f p × (4 * total g.shared g.procs ≤ length words.old) }
     ensures { ProcDone body.entry.source procedure start body.entry.callers words.old words.new }

@@ -22,7 +22,8 @@ pub fn list_bases(bytes: &[u8], header: Header, bases: &mut [u32])
     }
 }
 
-// Writes the words of all nodes: `starts` says which call places are whose.
+// Writes the words of all nodes: `starts` says which call places are whose. The words are lent, so a clause asks for
+// their length.
 pub fn expand(source: Source, starts: &[u32], words: &mut [u32])
     requires { (g : Prog) × Known source g × (length g.procs < length starts.now) × (4 * total g.shared g.procs ≤ length words.old) }
     ensures { Expanded source.entry.bytes.now source.entry.header starts.now words.new }

@@ -12,7 +12,7 @@ use program::procedures::Procedure;
 use program::steps::Step;
 use program::walks::Procedures;
 
-// Call places, listed in lent words: the first `count` of these are listed.
+// Call places, listed in lent words: the first `count` of these are listed. Not a `Vec`, since there is no heap.
 #[derive(Drop)]
 struct Sites<'s> {
     words: &'s mut [u32],

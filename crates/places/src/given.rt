@@ -4,7 +4,8 @@ ghost use Rattle.expansion.specs.Programs.{Headed};
 
 use program::programs::Header;
 
-// The bytes, and what is known of the program that they are.
+// The bytes, and what is known of the program that they are. The work words go beside it: a struct of both, with a ghost
+// field for their room, was tried, and the borrow check covers no `Result` of it (a `&mut` in a struct with a ghost field).
 #[derive(Clone, Copy)]
 pub struct Program<'b> {
     pub bytes: &'b [u8],

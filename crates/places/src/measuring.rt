@@ -16,6 +16,7 @@ pub fn measure(program: Program, work: &mut [u32]) -> Option<u64>
     requires { program.header.work ≤ length work.old }
     ensures { (g : Prog) → Headed program.entry.bytes.now program.entry.header g → Measured g result }
 {
+    // two arrays here and in `tell`, lent to `settle`: without a heap it can't hand out arrays of its own
     let mut bases = [0u32; MOST_PROCEDURES];
     let mut starts = [0u32; MOST_STARTS];
     let Saturated {

@@ -28,7 +28,8 @@ fn write_part(sets: &[u32], base: usize, part: &mut [u8])
     }
 }
 
-// Writes the table, procedure by procedure: the bytes of procedure f are those from `bases[f]` on.
+// Writes the table, procedure by procedure: the bytes of procedure f are those from `bases[f]` on. One
+// pass over all nodes would write the same: the parts stay since the edit must-fail/write_table.edit leaves out one.
 pub fn write_table(sets: &[u32], bases: &[u32], table: &mut [u8])
     requires parts { Parts bases.now (length bases.now) (length table.old) }
     requires long { 2 * length table.old ≤ length sets.now }
@@ -49,6 +50,7 @@ pub fn tell(program: Program, table: &mut [u8], work: &mut [u32])
     requires long { length table.old ≡ program.header.table }
     ensures { (g : Prog) → Headed program.entry.bytes.now program.entry.header g → Table g table.new }
 {
+    // two arrays here and in `measure`, lent to `settle`: without a heap it can't hand out arrays of its own
     let mut bases = [0u32; MOST_PROCEDURES];
     let mut starts = [0u32; MOST_STARTS];
     let Saturated {
