@@ -21,7 +21,7 @@ overflow_add-count c =
     let long = part_long c.args.counts.now b s.shared r in
     let few = counts_le (c.loop-x.invariant.rest c.args.n x c.requires.within (omega (arith, long, c.loop-x-test.true)) (omega arith)) in
     let same : get_or (put_mid b (b + s.shared - b) c.args.counts.now c.loop-x.own) (proc s.graph.now c.args.n + x) 0 ≡ get_or c.loop-x.own x 0 =
-        ap (λ i. get_or (put_mid b (b + s.shared - b) c.args.counts.now c.loop-x.own) (i + x) 0) (sym c.base-base.ensures) ∙ part_read c.args.counts.now c.loop-x.own b (b + s.shared - b) (omega arith) x (omega (arith, c.loop-x.auto.own, c.loop-x-test.true)) in
+    ap (λ i. get_or (put_mid b (b + s.shared - b) c.args.counts.now c.loop-x.own) (i + x) 0) (sym c.base-base.ensures) ∙ part_read c.args.counts.now c.loop-x.own b (b + s.shared - b) (omega arith) x (omega (arith, c.loop-x.auto.own, c.loop-x-test.true)) in
     omega (arith, few, same, c.requires.countable.small, c.requires.within)
 
 pub loop-x-preserved : goal.loop-x-preserved
