@@ -25,7 +25,8 @@ pub struct System<'g, 's> {
     pub sites: &'s [u32],
     // How many shared values there are.
     pub shared: usize,
-    // How many nodes there are: no part of `graph` alone, since the public interface names it, and those who build a system give both.
+    // How many nodes there are: kept beside `graph`, since the engine's public interface names it, and `places` builds
+    // a system by it.
     pub nodes: usize,
 }
 
