@@ -1,11 +1,12 @@
 -- Evaluating an expression where it stands: it stands in one way only, and each case of its value is
 -- that of the parts which stand behind its first byte.
-use Rattle.std.proofs.Common.{◌≡◌, ℕ, ◌+◌, ◌/◌, ◌%◌, ◌^◌, ◌<◌, ◌≤◌, true, not, ◌&&◌, eqb, List, [], ◌∷◌, ◌++◌, length, get_or, drop, sym, refl, ap, ◌∙◌, subst, arith}
+use Rattle.std.proofs.Common.{◌≡◌, ℕ, ◌+◌, ◌/◌, ◌^◌, ◌<◌, ◌≤◌, Bool, true, not, ◌&&◌, List, [], ◌∷◌, ◌++◌, length, get_or, drop, sym, refl, ap, ◌∙◌, subst, arith}
+use Rattle.std.proofs.Math.Option.{some}
 use Rattle.program.specs.declared.expressions.Valued.{Valued}
 use Rattle.program.specs.Program.{E, var, not1, and1, or_f, value}
 use Rattle.program.specs.Rows.{row_e, OkE}
 use Rattle.program.specs.Reading.{Stands}
-use Rattle.program.specs.Values.{bits, Has, Evals}
+use Rattle.program.specs.Values.{odd, bits, Has, Evals, Tests}
 use Rattle.program.proofs.Nums.{nth_bits}
 use Rattle.program.proofs.Standing.{stands_byte, stands_left, stands_right, byte_at}
 use Rattle.program.proofs.Prefix.{RestE, unknown_e}
@@ -72,11 +73,12 @@ module _ (s : List ℕ) (at : ℕ) where
     pub gives_yes : get_or s at 0 ≡ 0 → Evals s at v (record { holds = true; end = at + 1 })
     gives_yes g n e end k o = subst (Gives n end _) (sym (shape 0 g e end k).0) (λ k o. (refl, k.long)) k o
 
-    pub gives_var : get_or s at 0 ≡ 1 → Evals s at v (record { holds = eqb (v / 2 ^ get_or s (at + 1) 0 % 2) 1; end = at + 2 })
-    gives_var g n e end k o =
+    pub gives_var : (x : ℕ) (b : Bool) → get_or s at 0 ≡ 1 → x ≡ get_or s (at + 1) 0 → x < 32 → Tests v x b → Evals s at v (record { holds = b; end = at + 2 })
+    gives_var x b g p few t n e end k o =
         let l = shape 1 g e end k in
         let f = byte_at s (at + 1) l.0 _ l.2 in
-        let here : Gives n end (record { holds = eqb (v / 2 ^ get_or s (at + 1) 0 % 2) 1; end = at + 2 }) (var l.0) = λ k o. (ap (λ x. eqb (v / 2 ^ x % 2) 1) f.1 ∙ sym (ap or_f (nth_bits n v l.0 o)), k.long) in
+        let is : b ≡ or_f (some (odd (v / 2 ^ x))) = t (x + 1) (omega arith) (omega arith) ∙ ap or_f (nth_bits (x + 1) v x (omega arith)) in
+        let here : Gives n end (record { holds = b; end = at + 2 }) (var l.0) = λ k o. (is ∙ ap (λ y. or_f (some (odd (v / 2 ^ y)))) (p ∙ f.1) ∙ sym (ap or_f (nth_bits n v l.0 o)), k.long) in
         subst (Gives n end _) (sym l.1) here k o
 
     pub gives_not : (r : Valued) → get_or s at 0 ≡ 2 → Evals s (at + 1) v r → Evals s at v (record { holds = not r.holds; end = r.end })

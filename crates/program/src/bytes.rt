@@ -1,5 +1,5 @@
-// Single bytes of a program: the leaves of the reader. Places in the bytes are passed by value and not in
-// a cursor that moves on, since a step keeps where its expression stands, and evaluating goes back there.
+// Single bytes of a program: what all other reading goes by. Places in the bytes are passed by value and not
+// in a cursor that moves on, since a step keeps where its expression stands, and evaluating goes back there.
 ghost use Rattle.program.specs.Reading.{ReadByte, ReadNumber, ReadKind};
 
 use crate::refusals::{Reason, Refusal};
@@ -8,14 +8,10 @@ use crate::refusals::{Reason, Refusal};
 pub fn read_byte(bytes: &[u8], at: usize) -> Result<u8, Refusal>
     ensures { ReadByte bytes.now at result }
 {
-    if at < bytes.len() {
-        Ok(bytes[at])
-    } else {
-        Err(Refusal {
-            at,
-            reason: Reason::EndsEarly,
-        })
-    }
+    bytes.get(at).copied().ok_or(Refusal {
+        at,
+        reason: Reason::EndsEarly,
+    })
 }
 
 // The byte at `at`, which is to be below `limit`; `reason` is what is wrong where it isn't.

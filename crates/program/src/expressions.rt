@@ -5,6 +5,7 @@ ghost use Rattle.program.specs.Values.{Has, Evals};
 use crate::bytes::{read_kind, read_number};
 use crate::kinds::ExpressionKind;
 use crate::refusals::{Reason, Refusal};
+use crate::values::test_bit;
 
 // Where the expression at `at` ends, over variables below `vars`.
 #[tactic(auto, using(crate::proofs::ReadingExpr::no_var, crate::proofs::ReadingExpr::is_not, crate::proofs::ReadingExpr::no_and, crate::proofs::ReadingExpr::is_and))]
@@ -46,7 +47,7 @@ pub fn evaluate(bytes: &[u8], at: usize, values: u32) -> Valued
             end: at + 1,
         },
         ExpressionKind::Var => Valued {
-            holds: (values >> bytes[at + 1]) % 2 == 1,
+            holds: test_bit(values, u32::from(bytes[at + 1])),
             end: at + 2,
         },
         ExpressionKind::Not => {

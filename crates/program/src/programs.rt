@@ -84,7 +84,7 @@ fn read_procedures(bytes: &[u8], shared: u8, procs: usize) -> Result<Tally, Refu
 {
     let mut end = 1;
     let mut tally = Tally { count: 0, table: 0 };
-    // no `for`: where the next one begins is known once this one is read
+    // no `for` over a walk: a walk ends where nothing can be read, and here it has to be said why
     while end < bytes.len() {
         if tally.count == MOST_PROCEDURES {
             return Err(Refusal {

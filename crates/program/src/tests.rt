@@ -84,21 +84,14 @@ fn small_programs(rt: HostRuntime) {
 
 // No shared variable; then `whole` procedures of 255 returns, and `small` ones of so many.
 fn returning(heap: Global, whole: usize, small: &[u8]) -> Result<Vec<u8>, AllocError> {
-    let mut bytes = Vec::new(heap);
-    bytes.push(0)?;
+    let mut bytes = vec![in heap; 0]?;
     for _ in 0..whole {
-        bytes.push(0)?;
-        bytes.push(255)?;
-        for _ in 0..255u8 {
-            bytes.push(4)?;
-        }
+        bytes.extend_from_slice(&[0, 255])?;
+        bytes.extend_from_slice(&[4; 255])?;
     }
     for steps in small {
-        bytes.push(0)?;
-        bytes.push(*steps)?;
-        for _ in 0..*steps {
-            bytes.push(4)?;
-        }
+        bytes.extend_from_slice(&[0, *steps])?;
+        bytes.extend_from_slice(&[4; 255][..usize::from(*steps)])?;
     }
     Ok(bytes)
 }
@@ -148,10 +141,9 @@ fn limits_of_a_program(rt: HostRuntime) -> Result<(), Fail> {
 
 // `depth` times not, and then yes.
 fn nested(heap: Global, depth: usize) -> Result<Vec<u8>, AllocError> {
-    let mut bytes = [1, 0, 1, 0, 0].to_vec(heap)?;
-    for _ in 0..depth {
-        bytes.push(2)?;
-    }
+    let mut bytes = vec![in heap; 1, 0, 1, 0, 0]?;
+    let nots = vec![in heap; 2; depth]?;
+    bytes.extend_from_slice(&nots)?;
     bytes.push(0)?;
     Ok(bytes)
 }
@@ -204,6 +196,7 @@ fn walks_of_a_program(rt: HostRuntime) -> Result<(), Fail> {
     let Ok(header) = read(&ring) else {
         return Err(Fail::new("no program"));
     };
+    assert_eq!(rt; Procedures::new(&ring, header).count(), 2);
     let mut ends = [0; 2];
     let mut steps = [0; 2];
     for (number, procedure) in Procedures::new(&ring, header).enumerate() {

@@ -17,6 +17,7 @@ pub fn put_bit(values: u32, var: u32, yes: bool) -> u32
 }
 
 // Whether variable `var` is yes.
+#[inline]
 #[tactic(auto, using(crate::proofs::Nums::bit_is))]
 pub fn test_bit(values: u32, var: u32) -> bool
     requires { var < 32 }

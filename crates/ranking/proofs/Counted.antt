@@ -1,9 +1,12 @@
 -- The calls at one node are counted value by value, and so node by node.
-use Rattle.std.proofs.Common.{◌≡◌, ℕ, suc, ◌+◌, ◌<◌, ◌≤◌, List, length, get_or, set, sym, refl, ap, ◌∙◌, subst, inl, inr, add-one, arith}
-use Rattle.std.proofs.lemmas.List.{get_or-set_same}
+use Rattle.std.proofs.Common.{◌≡◌, ℕ, suc, ◌+◌, ◌<◌, ◌≤◌, List, ◌++◌, length, get_or, set, take, sym, refl, ap, ◌∙◌, subst, inl, inr, add-one, arith}
+use Rattle.std.proofs.lemmas.List.{get_or-set_same, length-append, length-take-le, set-append_left, set-append_right}
+use lib.Seq.{get_or-append_right}
+use lib.ListN.{get_or-append}
+use borrow.Rule.Slice.PartMut.{put_mid, post_of}
 use Rattle.std.proofs.lemmas.Bool.{cases_eq}
 use Rattle.saturation.specs.Bits.{On}
-use Rattle.saturation.specs.System.{kind, proc}
+use Rattle.saturation.specs.System.{kind, proc, Fine}
 use Rattle.saturation.specs.declared.Node.{Node}
 use Rattle.saturation.specs.declared.Node.TheVariants.{Flow, Call, Return}
 use Rattle.saturation.specs.Node.{Is}
@@ -18,6 +21,12 @@ pub record Counting (g : List ℕ) (k t : ℕ) (w : List ℕ) (n : ℕ) (c : Lis
 
 pub counted_none : (g : List ℕ) (k t : ℕ) (w c : List ℕ) → ((i : ℕ) → get_or c i 0 ≡ 0) → Counted g k t w 0 c
 counted_none g k t w c z m x h l = subst (Counts (CallAt g t w (proc g m) x) 0) (sym (z (proc g m + x))) none
+
+pub counting_first : {g : List ℕ} {k t : ℕ} {w : List ℕ} {n : ℕ} {c : List ℕ} → Counted g k t w n c → Counting g k t w n c 0
+counting_first h = record { done = λ m x l b z. absurd (omega arith); rest = λ m x l b z. h m x l b }
+
+pub counting_all : {g : List ℕ} {k t : ℕ} {w : List ℕ} {n : ℕ} {c : List ℕ} {y : ℕ} → Counting g k t w n c y → k ≤ y → Counted g k t w (n + 1) c
+counting_all {n = n} h a m x l b = rw (add-one n) (h.done m x l b (omega arith))
 
 -- what a node that is no call says
 pub not_call : (g : List ℕ) (n : ℕ) (v : Node) → Is g n v → ((a b : ℕ) → v ≡ Call a b → ⊥) → kind g n ≡ 1 → ⊥
@@ -53,3 +62,23 @@ module _ {g : List ℕ} {k t : ℕ} {w : List ℕ} {n : ℕ} {c : List ℕ} {y :
     ];
     rest = λ m x l d z. subst (Counts (CallAt g t w (proc g m) x) n) (sym (other_word aligned c m n x y v l within d b (inr (omega arith)))) (h.rest m x l d (omega arith));
   }
+
+-- the counts of a node's procedure, from b on
+pub part_room : {g : List ℕ} {k t : ℕ} (c : List ℕ) {n b : ℕ} → Fine g k t → t ≤ length c → n < t → b ≡ proc g n → b + k ≤ length c
+part_room c {n = n} fine l within e = omega (arith, fine.procs n within, e)
+
+-- one part of the words, from b on, holds `own` now
+module _ (c own : List ℕ) (b e : ℕ) (room : b ≤ length c) where
+  pub part_read : (x : ℕ) → x < length own → get_or (put_mid b e c own) (b + x) 0 ≡ get_or own x 0
+  part_read x l =
+      let long = length-take-le b c room in
+      get_or-append_right (take b c) _ (b + x) 0 (omega arith) ∙ ap (λ i. get_or (own ++ post_of b e c) i 0) (omega arith) ∙ get_or-append own _ 0 x l
+
+  pub part_set : (x v : ℕ) → x < length own → set (put_mid b e c own) (b + x) v ≡ put_mid b e c (set own x v)
+  part_set x v l =
+      set-append_right (take b c) _ b (b + x) v (length-take-le b c room) (omega arith)
+      ∙ ap (λ i. take b c ++ set (own ++ post_of b e c) i v) (omega arith)
+      ∙ ap (λ s. take b c ++ s) (set-append_left own _ x v l)
+
+  pub part_past : (x : ℕ) → x < length own → b + x < length (put_mid b e c own)
+  part_past x l = omega (arith, length-take-le b c room, length-append (take b c) (own ++ post_of b e c), length-append own (post_of b e c))

@@ -15,10 +15,10 @@ fn count_call(system: System, sets: &[u32], counts: &mut [u32], n: usize)
     ensures { Counted system.entry.graph.now system.entry.shared system.entry.nodes sets.now (n + 1) counts.new }
 {
     let base = system.base(n);
-    // Over the values and no `iter_mut` of the counts, since the set is asked for each value too.
-    for x in 0..system.shared {
+    let own = &mut counts[base..base + system.shared];
+    for (x, count) in own.iter_mut().enumerate() {
         if has(sets, n, x) {
-            counts[base + x] += 1;
+            *count += 1;
         }
     }
 }

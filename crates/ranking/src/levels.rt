@@ -259,7 +259,7 @@ impl Ranker<'_, '_, '_, '_, '_> {
     {
         // No `for height in 0..`: behind that range, which has no end, an `unreachable!` would stand.
         let mut height: u64 = 0;
-        'levels: while !self.is_reached(ROOT) {
+        while !self.is_reached(ROOT) {
             self.next.fill(0);
             self.settle_level();
             if self.is_stuck() {

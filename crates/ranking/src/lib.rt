@@ -4,6 +4,8 @@
 // Entries are taken level by level. Those that call nothing come first; an entry whose calls all lead to entries
 // taken before is of the next level. A call is removed once the entry that it calls is taken, and a count of the
 // calls left tells when an entry has none: so each call is looked at twice, however deep calls can be.
+//
+// Words are `u32`, and `as usize` makes a number of one: std has no `From<u32>` for `usize`.
 #![tactic(auto)]
 
 ghost use Rattle.std.specs.Prelude.{◌≡◌, ◌≢◌, ℕ, ◌+◌, ◌*◌, ◌^◌, ◌<◌, ◌≤◌, length, slice_index};
@@ -19,7 +21,7 @@ mod first;
 mod levels;
 
 // The procedures of a system, by number: the node where each begins, and the call places of each, those from
-// `starts[f]` to `starts[f + 1]`.
+// `starts[f]` to `starts[f + 1]`. Two slices and no slice of pairs: both are lent as words, and filled one after the other.
 #[derive(Clone, Copy)]
 pub struct Procedures<'b, 's> {
     pub bases: &'b [u32],

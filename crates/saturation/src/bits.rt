@@ -1,5 +1,6 @@
 // Sets of bits, two words of 32 for each node. What sets bits says whether one was new.
-// Functions on lent words, and no struct: some callers hold the words by `&` and others by `&mut`, which would be two structs with the same methods.
+// Functions on lent words, and no struct: `saturate` and `rank` promise of lent words, and a struct would wrap them
+// first, for the same methods.
 ghost use Rattle.std.specs.Prelude.{◌≡◌, ℕ, ◌+◌, ◌*◌, ◌<◌, true, false, length};
 ghost use Rattle.saturation.specs.Bits.{On, Grew, Merged, Joined, Added};
 ghost use Rattle.saturation.specs.Marks.{Removed};

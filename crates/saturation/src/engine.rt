@@ -7,11 +7,14 @@ use crate::bits::{add, has, is_empty, join};
 use crate::marks::Marks;
 use std::ops::Range;
 
-// `sets` has a set of shared values for each node, and behind those one for each entry: with what it can return.
+// `sets` has a set of shared values for each node, and behind those one for each entry: with what it can return. Both
+// are in one slice, since what `saturate` promises speaks of one table.
 #[derive(Drop)]
 pub(crate) struct Engine<'g, 's, 'w, 'n, 'm> {
     pub(crate) system: System<'g, 's>,
     pub(crate) sets: &'w mut [u32],
+    // By reference: held by value, what the slices hold after the engine's end is lost to the caller (tried, at goal
+    // `returns`: `work-1.given`).
     pub(crate) marks: &'n mut Marks<'m>,
     ghost ready: { Able system sets.now marks.now },
 }

@@ -25,7 +25,8 @@ pub struct System<'g, 's> {
     pub sites: &'s [u32],
     // How many shared values there are.
     pub shared: usize,
-    // How many nodes there are.
+    // How many nodes there are: kept beside `graph`, since the engine's public interface names it, and `places` builds
+    // a system by it.
     pub nodes: usize,
 }
 
@@ -38,6 +39,7 @@ pub enum Node {
     Return { begin: usize, end: usize },
 }
 
+// That the words are `Fine` is asked by the methods: a ghost field would ask it of whoever makes a system.
 impl System<'_, '_> {
     // Node `n`.
     #[inline]

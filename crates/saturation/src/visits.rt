@@ -19,6 +19,7 @@ impl Engine<'_, '_, '_, '_, '_> {
         ensures marked { CallersMarked self.old self.new q x true }
     {
         let system = self.system;
+        // No loop over `sites` itself: it goes by its iterator, whose index the invariant then lacks (tried).
         for site in sites.start..sites.end {
             self.revisit_place(system.place(site), x);
         }

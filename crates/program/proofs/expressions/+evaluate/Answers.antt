@@ -9,8 +9,8 @@ bounds-bytes-at t c = has_some _ _ _ c.requires
 pub bounds-bytes-at-in-Var : goal.bounds-bytes-at-in-Var
 bounds-bytes-at-in-Var t c = (has_var _ _ _ c.requires (c.in-Ok.ensures ∙ ap byte_e c.in-Var.is)).0
 
-pub overflow_shr-result : goal.overflow_shr-result
-overflow_shr-result t c = (has_var _ _ _ c.requires (c.in-Ok.ensures ∙ ap byte_e c.in-Var.is)).1
+pub test_bit-requires : goal.test_bit-requires
+test_bit-requires t c = omega (arith, c.from.ensures, (has_var _ _ _ c.requires (c.in-Ok.ensures ∙ ap byte_e c.in-Var.is)).1)
 
 pub evaluate-part-requires : goal.evaluate-part-requires
 evaluate-part-requires t c = (omega (arith, has_some _ _ _ c.requires), has_not _ _ _ c.requires (c.in-Ok.ensures ∙ ap byte_e c.in-Not.is))
@@ -30,7 +30,9 @@ pub returns-in-Yes : goal.returns-in-Yes
 returns-in-Yes t c = gives_yes _ _ _ (c.in-Ok.ensures ∙ ap byte_e c.in-Yes.is)
 
 pub returns-in-Var : goal.returns-in-Var
-returns-in-Var t c = gives_var _ _ _ (c.in-Ok.ensures ∙ ap byte_e c.in-Var.is)
+returns-in-Var t c =
+    let k = c.in-Ok.ensures ∙ ap byte_e c.in-Var.is in
+    gives_var _ _ _ _ _ k c.from.ensures (omega (arith, c.from.ensures, (has_var _ _ _ c.requires k).1)) c.test_bit.ensures
 
 pub returns-in-Not : goal.returns-in-Not
 returns-in-Not t c = gives_not _ _ _ _ (c.in-Ok.ensures ∙ ap byte_e c.in-Not.is) c.evaluate-part.ensures
