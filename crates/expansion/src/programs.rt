@@ -16,6 +16,8 @@ pub fn list_bases(bytes: &[u8], header: Header, bases: &mut [u32])
     ensures { Based bytes.now header bases.new }
 {
     let mut base: u32 = 0;
+    // By index: behind a `zip` with `iter_mut` nothing is known of the words that were written (tried; `returns` stays
+    // open).
     for (f, procedure) in Procedures::new(bytes, header).enumerate() {
         bases[f] = base;
         base += header.table_size(procedure) as u32;
@@ -28,6 +30,7 @@ pub fn expand(source: Source, starts: &[u32], words: &mut [u32])
     requires { (g : Prog) × Known source g × (length g.procs < length starts.now) × (4 * total g.shared g.procs ≤ length words.old) }
     ensures { Expanded source.entry.bytes.now source.entry.header starts.now words.new }
 {
+    // By index: two of the starts go with each procedure, and pairs of a `windows` would be indexed too.
     for (f, procedure) in Procedures::new(source.bytes, source.header).enumerate() {
         let place = source.first_place(f, procedure);
         let callers = Callers {
