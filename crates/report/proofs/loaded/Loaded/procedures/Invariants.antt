@@ -3,4 +3,4 @@ use Rattle.report.proofs.Walks.{Walking}
 use Rattle.report.proofs.loaded.Loaded.procedures.Given as goal
 
 abbrev pub invariant-loop-procedure : goal.invariant-loop-procedure
-invariant-loop-procedure l = Walking (vec_items l.self.bytes) l.self.header (vec_items l.all) l.procedure-iterator
+invariant-loop-procedure l = Walking (l.self.bytes.now) l.self.header (vec_items l.all) l.procedure-iterator
