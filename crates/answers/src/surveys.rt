@@ -12,14 +12,14 @@ impl Decided {
     // For each procedure, a flag for each of its places: whether some run comes there.
     fn survey(&self, heap: Global) -> Result<Vec<Vec<bool>>, Complaint> {
         let mut all = Vec::new(heap);
-        for f in 0..self.program.header.procs {
+        for f in 0..self.header.procs {
             all.push(self.reached_places(heap, f)?)?;
         }
         Ok(all)
     }
 }
 
-// How many of the flags are down.
+// How many of the flags are false.
 fn never(flags: &[bool]) -> usize {
     flags.iter().filter(|flag| !**flag).count()
 }
@@ -122,20 +122,20 @@ impl fmt::Display for Missed<'_, '_> {
 
 impl Written<'_, '_> {
     // What there is to tell of the program that it means.
-    pub fn summary(&self, heap: Global) -> Result<String, Complaint> {
+    pub fn summary(self, heap: Global) -> Result<String, Complaint> {
         let decided = self.decide(heap)?;
         let overview = Overview {
             names: &self.source.names,
             reached: decided.survey(heap)?,
-            waiting: decided.program.calls_waiting(heap)?,
+            waiting: decided.program().calls_waiting(heap)?,
         };
         Ok(format!(in heap; "{overview}")?)
     }
 
-    // The places of the program that it means to which no run comes.
-    pub fn unreached(&self, heap: Global) -> Result<String, Complaint> {
+    // The places of the program that it means to which no run comes; `text` is what it was parsed from.
+    pub fn unreached(self, heap: Global, text: &[u8]) -> Result<String, Complaint> {
         let decided = self.decide(heap)?;
-        let text = String::from_utf8_lossy(heap, self.text)?;
+        let text = String::from_utf8_lossy(heap, text)?;
         let missed = Missed {
             names: &self.source.names,
             reached: decided.survey(heap)?,
