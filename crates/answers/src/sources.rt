@@ -42,17 +42,16 @@ pub struct Written<'f, 's> {
 
 // The program that `file` holds as `text`, or what is wrong with it.
 pub fn load(heap: Global, file: &str, text: &[u8]) -> Result<Source, Complaint> {
-    match parse(heap, text) {
-        Ok(source) => Ok(source),
-        Err(Failure::Memory) => Err(Complaint::Memory),
-        Err(Failure::Errors(errors)) => {
+    parse(heap, text).map_err(|failure| match failure {
+        Failure::Memory => Complaint::Memory,
+        Failure::Errors(errors) => {
             let report = Report {
                 file,
                 errors: errors.as_slice(),
             };
-            Err(Complaint::new(format!(in heap; "{report}")))
+            Complaint::new(format!(in heap; "{report}"))
         }
-    }
+    })
 }
 
 impl Written<'_, '_> {
@@ -60,14 +59,11 @@ impl Written<'_, '_> {
     fn encode(self, heap: Global) -> Result<Vec<u8>, Complaint>
         ensures { EncodedTree self.entry.source.now.tree result }
     {
-        match encode(heap, &self.source.tree) {
-            Ok(bytes) => Ok(bytes),
-            Err(fault) => {
-                let file = self.file;
-                let refusal = refused(fault, &self.source.names);
-                Err(Complaint::new(format!(in heap; "{file}: {refusal}")))
-            }
-        }
+        let file = self.file;
+        encode(heap, &self.source.tree).map_err(|fault| {
+            let refusal = refused(fault, &self.source.names);
+            Complaint::new(format!(in heap; "{file}: {refusal}"))
+        })
     }
 
     // The table of the program that it means.
