@@ -32,6 +32,7 @@ impl Decided {
         ensures { Flagged self.now f result }
     {
         let part = self.program().part(f);
+        // Not by `map` and `collect`: the closure would need clauses of its own, on where `place` is and what its flag says.
         let mut flags = Vec::new(heap);
         for place in 0..usize::from(part.procedure.steps) + 1 {
             let bytes = place_bytes(self.table.as_slice(), part, place);
