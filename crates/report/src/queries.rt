@@ -96,6 +96,7 @@ impl Loaded<'_> {
         requires { number < self.header.procs }
         ensures { Parted self.entry.bytes.now self.entry.header number result }
     {
+        // Not by `nth`: `base` would want a second walk, and the `unreachable()` would stay.
         let mut base: usize = 0;
         for (i, procedure) in Procedures::new(self.bytes, self.header).enumerate() {
             if i == number {
@@ -110,7 +111,8 @@ impl Loaded<'_> {
         unreachable()
     }
 
-    // Its table; `file` is for the sentence of refusal.
+    // Its table; `file` is for the sentence of refusal. `heap` and `file` are no fields: `memory` and `part` want neither,
+    // and a caller that lends bytes may have no file.
     pub fn decide(self, heap: Global, file: &str) -> Result<Vec<u8>, Complaint>
         ensures { Decided self.entry.bytes.now result }
     {

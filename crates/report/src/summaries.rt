@@ -54,11 +54,7 @@ impl Loaded<'_> {
     fn procedures(self, heap: Global) -> Result<Vec<Procedure>, Complaint>
         ensures { Walked self.entry.bytes.now self.entry.header result }
     {
-        let mut all = Vec::new(heap);
-        for procedure in Procedures::new(self.bytes, self.header) {
-            all.push(procedure)?;
-        }
-        Ok(all)
+        Ok(Procedures::new(self.bytes, self.header).collect(heap)?)
     }
 }
 
