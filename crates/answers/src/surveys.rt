@@ -117,7 +117,11 @@ struct Missed<'n, 't> {
 impl fmt::Display for Missed<'_, '_> {
     fn fmt<W: fmt::Write>(&self, f: &mut fmt::Formatter<W>) -> fmt::Result {
         let text = self.text;
-        if self.survey.procedures().all(|(_, flags)| never(flags.as_slice()) == 0) {
+        if self
+            .survey
+            .procedures()
+            .all(|(_, flags)| never(flags.as_slice()) == 0)
+        {
             return f.write_str("every place is reached\n");
         }
         for (procedure, flags) in self.survey.procedures() {
