@@ -5,6 +5,9 @@ use Rattle.std.proofs.lemmas.List.{get_or_push, get_or_append_left}
 use Rattle.std.proofs.lemmas.Bool.{cases_eq, cases_Bool}
 use Rattle.program.specs.Program.{nth, Proc, Prog}
 use Rattle.program.specs.Table.{before}
+use Rattle.program.specs.Rows.{Reads}
+use Rattle.program.specs.Reading.{HeaderOf}
+use Rattle.report.specs.declared.loaded.Loaded.{Loaded}
 use Rattle.report.specs.declared.queries.Part.{Part}
 use Rattle.report.specs.Queries.{Parted}
 use Rattle.answers.specs.declared.deciding.Decided.{Decided}
@@ -21,9 +24,9 @@ pub record Located (g : Prog) (f : ℕ) (part : Part) : Type 0 where
   pub width : part.width ≡ 2 ^ (g.shared + p.own)
 
 module _ {g : Prog} (d : Decided) (h : Holds g d) where
-  pub located : {f : ℕ} {part : Part} → Parted (vec_items d.program.bytes) d.program.header f part → Located g f part
-  located q =
-      let o = q.0 g h.reads h.header in
+  pub located : {f : ℕ} {part : Part} (l : Loaded) → l.bytes.now ≡ vec_items d.bytes → l.header ≡ d.header → Parted l.bytes.now l.header f part → Located g f part
+  located l bytes header q =
+      let o = q.0 g (subst (λ s. Reads s g) (sym bytes) h.reads) (subst (HeaderOf g) (sym header) h.header) in
       record { p = o.p; there = o.there; steps = o.steps; base = o.base; width = o.width }
 
   module _ {f : ℕ} {part : Part} (l : Located g f part) (a : ℕ) (place : a ≤ length l.p.steps) (t : List ℕ) (e : t ≡ vec_items d.table) where

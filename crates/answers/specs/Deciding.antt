@@ -8,7 +8,7 @@ use Rattle.answers.specs.Holding.{IsDecided}
 
 -- d is g: its bytes, its header, its table
 abbrev pub Holds : Prog → Decided → Type 0
-Holds g d = IsDecided g (vec_items d.program.bytes) d.program.header (vec_items d.table)
+Holds g d = IsDecided g (vec_items d.bytes) d.header (vec_items d.table)
 
 -- the bytes s were decided, for the program that they are
 abbrev pub DecidedOf : List ℕ → Result Decided Complaint → Type 0

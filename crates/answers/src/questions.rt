@@ -9,7 +9,8 @@ use std::alloc::Global;
 use std::fmt;
 use text::names::{Names, find};
 
-// Names, one behind another, with commas between.
+// Names, one behind another, with commas between. Not the slices of what is `Named`: it was tried, and that a chain of
+// two such slices ends was not proved (`loop-i-init`).
 #[derive(Drop)]
 struct Listed<'n>(Vec<&'n str>);
 

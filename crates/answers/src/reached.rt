@@ -28,10 +28,11 @@ fn place_bytes(table: &[u8], part: Part, place: usize) -> &[u8]
 impl Decided {
     // For each place of procedure `f`, whether some run comes there.
     pub fn reached_places(&self, heap: Global, f: usize) -> Result<Vec<bool>, Complaint>
-        requires { f < self.now.program.header.procs }
+        requires { f < self.now.header.procs }
         ensures { Flagged self.now f result }
     {
-        let part = self.program.part(f);
+        let part = self.program().part(f);
+        // Not by `map` and `collect`: the closure would need clauses of its own, on where `place` is and what its flag says.
         let mut flags = Vec::new(heap);
         for place in 0..usize::from(part.procedure.steps) + 1 {
             let bytes = place_bytes(self.table.as_slice(), part, place);
@@ -44,10 +45,10 @@ impl Decided {
     pub fn look(&self, heap: Global, question: Question) -> Result<Matches, Complaint>
         ensures { Found self.now question result }
     {
-        if question.procedure >= self.program.header.procs {
+        if question.procedure >= self.header.procs {
             return Err(Complaint::new(String::from_str(heap, "There is no such procedure.")));
         }
-        let part = self.program.part(question.procedure);
+        let part = self.program().part(question.procedure);
         if question.place > usize::from(part.procedure.steps) {
             return Err(Complaint::new(String::from_str(heap, "There is no such place.")));
         }

@@ -33,59 +33,50 @@ impl fmt::Display for Report<'_, '_> {
     }
 }
 
-// A program in readable form: what was parsed, of which file and which text.
-#[derive(Drop)]
-pub struct Written<'f, 't> {
+// A program in readable form: what was parsed, and of which file.
+#[derive(Clone, Copy)]
+pub struct Written<'f, 's> {
     pub file: &'f str,
-    pub text: &'t [u8],
-    pub source: Source,
+    pub source: &'s Source,
 }
 
 // The program that `file` holds as `text`, or what is wrong with it.
-pub fn load<'f, 't>(
-    heap: Global,
-    file: &'f str,
-    text: &'t [u8],
-) -> Result<Written<'f, 't>, Complaint> {
-    match parse(heap, text) {
-        Ok(source) => Ok(Written { file, text, source }),
-        Err(Failure::Memory) => Err(Complaint::Memory),
-        Err(Failure::Errors(errors)) => {
+pub fn load(heap: Global, file: &str, text: &[u8]) -> Result<Source, Complaint> {
+    parse(heap, text).map_err(|failure| match failure {
+        Failure::Memory => Complaint::Memory,
+        Failure::Errors(errors) => {
             let report = Report {
                 file,
                 errors: errors.as_slice(),
             };
-            Err(Complaint::new(format!(in heap; "{report}")))
+            Complaint::new(format!(in heap; "{report}"))
         }
-    }
+    })
 }
 
 impl Written<'_, '_> {
     // The bytes of the program that it means.
-    fn encode(&self, heap: Global) -> Result<Vec<u8>, Complaint>
-        ensures { EncodedTree self.now.source.tree result }
+    fn encode(self, heap: Global) -> Result<Vec<u8>, Complaint>
+        ensures { EncodedTree self.entry.source.now.tree result }
     {
-        match encode(heap, &self.source.tree) {
-            Ok(bytes) => Ok(bytes),
-            Err(fault) => {
-                let file = self.file;
-                let refusal = refused(fault, &self.source.names);
-                Err(Complaint::new(format!(in heap; "{file}: {refusal}")))
-            }
-        }
+        let file = self.file;
+        encode(heap, &self.source.tree).map_err(|fault| {
+            let refusal = refused(fault, &self.source.names);
+            Complaint::new(format!(in heap; "{file}: {refusal}"))
+        })
     }
 
     // The table of the program that it means.
-    pub fn decide(&self, heap: Global) -> Result<Decided, Complaint>
-        ensures { DecidedTree self.now.source.tree result }
+    pub fn decide(self, heap: Global) -> Result<Decided, Complaint>
+        ensures { DecidedTree self.entry.source.now.tree result }
     {
         let bytes = self.encode(heap)?;
         Decided::new(heap, self.file, bytes)
     }
 
     // The answer to a question about the program that it means.
-    pub fn answer(&self, heap: Global, question: Question) -> Result<String, Complaint>
-        ensures { AnsweredTree self.now.source.tree question result }
+    pub fn answer(self, heap: Global, question: Question) -> Result<String, Complaint>
+        ensures { AnsweredTree self.entry.source.now.tree question result }
     {
         let decided = self.decide(heap)?;
         reply(heap, &self.source.names, &decided, question)

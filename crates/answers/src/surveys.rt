@@ -6,20 +6,37 @@ use report::complaints::Complaint;
 use report::waiting::Waiting;
 use std::alloc::Global;
 use std::fmt;
+use std::iter::Zip;
+use std::slice::Iter;
 use text::names::{Names, ProcedureNames};
 
-impl Decided {
-    // For each procedure, a flag for each of its places: whether some run comes there.
-    fn survey(&self, heap: Global) -> Result<Vec<Vec<bool>>, Complaint> {
-        let mut all = Vec::new(heap);
-        for f in 0..self.program.header.procs {
-            all.push(self.reached_places(heap, f)?)?;
-        }
-        Ok(all)
+// For each procedure, in the order of the names, a flag for each of its places: whether some run comes there.
+#[derive(Drop)]
+struct Survey<'n> {
+    names: &'n Names,
+    reached: Vec<Vec<bool>>,
+}
+
+impl Survey<'_> {
+    // Each procedure with its flags.
+    fn procedures(&self) -> Zip<Iter<'_, ProcedureNames>, Iter<'_, Vec<bool>>> {
+        self.names.procedures.iter().zip(self.reached.iter())
     }
 }
 
-// How many of the flags are down.
+impl Decided {
+    // The survey of it, whose names are these.
+    fn survey<'n>(&self, heap: Global, names: &'n Names) -> Result<Survey<'n>, Complaint> {
+        // Not by `map` and `try_collect`: the closure would need a clause of its own, that `f` is below `procs`.
+        let mut reached = Vec::new(heap);
+        for f in 0..self.header.procs {
+            reached.push(self.reached_places(heap, f)?)?;
+        }
+        Ok(Survey { names, reached })
+    }
+}
+
+// How many of the flags are false.
 fn never(flags: &[bool]) -> usize {
     flags.iter().filter(|flag| !**flag).count()
 }
@@ -27,20 +44,19 @@ fn never(flags: &[bool]) -> usize {
 // What `reach FILE` tells.
 #[derive(Drop)]
 struct Overview<'n> {
-    names: &'n Names,
-    reached: Vec<Vec<bool>>,
+    survey: Survey<'n>,
     waiting: Waiting,
 }
 
 impl fmt::Display for Overview<'_> {
     fn fmt<W: fmt::Write>(&self, f: &mut fmt::Formatter<W>) -> fmt::Result {
-        let shared = self.names.shared.len();
-        let procedures = self.reached.len();
+        let shared = self.survey.names.shared.len();
+        let procedures = self.survey.reached.len();
         writeln!(f, "shared variables: {shared}")?;
         writeln!(f, "procedures: {procedures}")?;
         let mut places: usize = 0;
         let mut missed: usize = 0;
-        for (procedure, flags) in self.names.procedures.iter().zip(self.reached.iter()) {
+        for (procedure, flags) in self.survey.procedures() {
             let name = procedure.name.as_str();
             let own = procedure.own.len();
             let here = flags.len();
@@ -94,20 +110,21 @@ impl fmt::Display for MissedPlaces<'_, '_, '_> {
 // What `unreached FILE` tells.
 #[derive(Drop)]
 struct Missed<'n, 't> {
-    names: &'n Names,
-    reached: Vec<Vec<bool>>,
+    survey: Survey<'n>,
     text: &'t str,
 }
 
 impl fmt::Display for Missed<'_, '_> {
     fn fmt<W: fmt::Write>(&self, f: &mut fmt::Formatter<W>) -> fmt::Result {
-        let procedures = self.names.procedures.as_slice();
         let text = self.text;
-        let mut named = procedures.iter().zip(self.reached.iter());
-        if named.all(|(_, flags)| never(flags.as_slice()) == 0) {
+        if self
+            .survey
+            .procedures()
+            .all(|(_, flags)| never(flags.as_slice()) == 0)
+        {
             return f.write_str("every place is reached\n");
         }
-        for (procedure, flags) in procedures.iter().zip(self.reached.iter()) {
+        for (procedure, flags) in self.survey.procedures() {
             let flags = flags.as_slice();
             let missed = MissedPlaces {
                 procedure,
@@ -122,23 +139,21 @@ impl fmt::Display for Missed<'_, '_> {
 
 impl Written<'_, '_> {
     // What there is to tell of the program that it means.
-    pub fn summary(&self, heap: Global) -> Result<String, Complaint> {
+    pub fn summary(self, heap: Global) -> Result<String, Complaint> {
         let decided = self.decide(heap)?;
         let overview = Overview {
-            names: &self.source.names,
-            reached: decided.survey(heap)?,
-            waiting: decided.program.calls_waiting(heap)?,
+            survey: decided.survey(heap, &self.source.names)?,
+            waiting: decided.program().calls_waiting(heap)?,
         };
         Ok(format!(in heap; "{overview}")?)
     }
 
-    // The places of the program that it means to which no run comes.
-    pub fn unreached(&self, heap: Global) -> Result<String, Complaint> {
+    // The places of the program that it means to which no run comes; `text` is what it was parsed from.
+    pub fn unreached(self, heap: Global, text: &[u8]) -> Result<String, Complaint> {
         let decided = self.decide(heap)?;
-        let text = String::from_utf8_lossy(heap, self.text)?;
+        let text = String::from_utf8_lossy(heap, text)?;
         let missed = Missed {
-            names: &self.source.names,
-            reached: decided.survey(heap)?,
+            survey: decided.survey(heap, &self.source.names)?,
             text: text.as_str(),
         };
         Ok(format!(in heap; "{missed}")?)

@@ -41,8 +41,10 @@ fn answer(heap: Global, text: &str, place: &str, words: &str) -> Result<String, 
     for word in words.split_whitespace() {
         values.push(String::from_str(heap, word)?)?;
     }
-    let written = load(heap, "f", text.as_bytes())?;
-    let question = ask(heap, &written.source.names, place, values.as_slice())?;
+    let file = "f";
+    let source = &load(heap, file, text.as_bytes())?;
+    let written = Written { file, source };
+    let question = ask(heap, &source.names, place, values.as_slice())?;
     written.answer(heap, question)
 }
 
@@ -119,9 +121,11 @@ fn answers(rt: HostRuntime) -> Result<(), Fail> {
 
 // The survey of a program and its unreached places, or what is wrong with it.
 fn surveyed(heap: Global, text: &str) -> Result<String, Complaint> {
-    let written: Written = load(heap, "f", text.as_bytes())?;
+    let file = "f";
+    let source = &load(heap, file, text.as_bytes())?;
+    let written = Written { file, source };
     let mut told = written.summary(heap)?;
-    told.push_str(written.unreached(heap)?.as_str())?;
+    told.push_str(written.unreached(heap, text.as_bytes())?.as_str())?;
     Ok(told)
 }
 

@@ -1,11 +1,17 @@
 -- A program that was read, with as much memory as it wants, is told.
-use Rattle.std.proofs.Common.{◌≡◌, ℕ, ◌≤◌, List, length, ◌⊎◌, ⊎_elim, refl, ap, ◌∙◌, arith}
+use Rattle.std.proofs.Common.{◌≡◌, ℕ, ◌≤◌, List, length, Ok, ◌⊎◌, ⊎_elim, refl, ap, ◌∙◌, arith}
+use Rattle.std.proofs.Math.Logic.{∥∥₁_elim}
+use mathlib.Core.HLevel.{⊥_prop}
+use Rattle.program.specs.declared.programs.Header.{Header}
+use Rattle.program.specs.Reading.{ReadProgram}
 use Rattle.program.specs.Program.{Prog}
 use Rattle.program.specs.Rows.{Reads}
 use Rattle.program.specs.Table.{total, wants}
 use Rattle.places.specs.declared.Known.{Known}
 use Rattle.places.specs.declared.Known.TheVariants.{Told, NoProgram, OutFull, Few}
-use Rattle.places.specs.Says.{KnownPost}
+use Rattle.places.specs.declared.Deep.{Deep}
+use Rattle.places.specs.declared.Deep.TheVariants.{AtMost, Endless, Unread, Short}
+use Rattle.places.specs.Says.{KnownPost, DeepPost, Unbounded}
 
 code : Known → ℕ
 code Told = 0
@@ -29,3 +35,13 @@ never {s} Few k g r room work is =
     let same = k.laws.one_program s few.0 g few.1 r in
     let e : wants few.0 ≡ wants g = ap wants same in
     absurd (omega (arith, few.2, e))
+
+-- and where no greatest number of waiting calls is told, there is none
+pub endless : {s : List ℕ} {h : Header} {w : ℕ} (r : Deep) → DeepPost s w r → ∥ ReadProgram s (Ok h) ∥₁ → h.work ≤ w → ((d : ℕ) → r ≡ AtMost d → ⊥) → (g : Prog) × Reads s g × Unbounded g
+endless (AtMost d) k read room not = absurd (not d refl)
+endless Endless k read room not = k.says
+endless Unread k read room not = absurd (∥∥₁_elim read ⊥_prop (λ r. k.says r.0 r.1))
+endless {s} Short k read room not = absurd (∥∥₁_elim read ⊥_prop (λ r.
+    let short = k.short.1 refl in
+    let e : wants short.0 ≡ wants r.0 = ap wants (k.laws.one_program s short.0 r.0 short.1 r.1) in
+    absurd (omega (arith, short.2, e, r.2.work, room))))

@@ -1,6 +1,7 @@
 -- Walking through the procedures tells each of them in its turn.
 use Rattle.std.proofs.Common.{◌≡◌, ℕ, ◌+◌, ◌<◌, ◌≤◌, List, [], ◌∷◌, ◌++◌, drop, Some, None, Ok, refl, sym, ap, ◌∙◌, subst, append_assoc, append-nil, arith}
 use Rattle.std.proofs.lemmas.List.{drop_all}
+use Rattle.std.specs.Iterator.{Yields}
 use Rattle.program.specs.declared.procedures.Procedure.{Procedure}
 use Rattle.program.specs.declared.programs.Header.{Header}
 use Rattle.program.specs.Program.{Prog}
@@ -57,3 +58,10 @@ module _ {s : List ℕ} {d : Header} {told : List Procedure} {w : Procedures} (i
 
   pub walked : (v : Procedures) → GivesProcedure w None v → (g : Prog) → Reads s g → HeaderOf g d → Heads g.procs told
   walked v k g r h = finish inv.sofar (omega (arith, procedures_all inv.here v k r h (inv.sofar.rest g r h))) g r h
+
+-- a walk that has given some procedures and ends has told all
+pub all_walked : {s : List ℕ} {d : Header} (told ps : List Procedure) (w v u : Procedures) → Walking s d told w → Yields GivesProcedure w ps v → GivesProcedure v None u → (g : Prog) → Reads s g → HeaderOf g d → Heads g.procs (told ++ ps)
+all_walked {s} {d} told [] w v u inv run end g r h =
+    subst (Heads g.procs) (sym (append-nil told)) (walked (subst (Walking s d told) run inv) u end g r h)
+all_walked told (p ∷ ps) w v u inv run end g r h =
+    subst (Heads g.procs) (append_assoc told (p ∷ []) ps) (all_walked (told ++ p ∷ []) ps run.0 v u (walk_on inv run.0 p (told ++ p ∷ []) run.1 refl) run.2 end g r h)

@@ -20,8 +20,7 @@ pub fn file_argument(heap: Global, args: &[String]) -> Result<&str, Complaint>
     ensures { OneFile args.now result }
 {
     match args {
-        [_, file] => Ok(file.as_str()),
-        [_, file, _, _, _] => Ok(file.as_str()),
+        [_, file] | [_, file, _, _, _] => Ok(file.as_str()),
         [] | [_] => Err(usage(heap, "No file is named")),
         [_, _, _] | [_, _, _, _] => Err(usage(heap, "Too few arguments are given")),
         _ => Err(usage(heap, "Too many arguments are given")),

@@ -8,7 +8,8 @@ use std::alloc::Global;
 use std::alloc::{AllocError, AllocFailed};
 use std::fmt;
 
-// One sentence, or that memory was short.
+// One sentence, or that memory was short. Not an `Option` of a sentence: it is the error that `?` makes from others by
+// `From`, and that is shown by `Display`.
 #[derive(Drop)]
 pub enum Complaint {
     Sentence(String),

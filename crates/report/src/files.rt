@@ -3,7 +3,7 @@
 ghost use Rattle.report.specs.Files.{Loads};
 
 use crate::complaints::Complaint;
-use crate::loaded::Loaded;
+use crate::loaded::Listed;
 use program::programs;
 use std::alloc::Global;
 use syntax::decimal::read_decimal;
@@ -17,7 +17,7 @@ pub(crate) struct File<'n, 't> {
 
 impl File<'_, '_> {
     // The program that the file holds, or why it holds none.
-    pub fn load(self, heap: Global) -> Result<Loaded, Complaint>
+    pub fn load(self, heap: Global) -> Result<Listed, Complaint>
         ensures { Loads self.entry.text.now result }
     {
         // Not by `map_err`: it was tried, and what the closure makes of `Fault::Memory` is not known behind it
@@ -30,9 +30,6 @@ impl File<'_, '_> {
             Ok(header) => header,
             Err(refusal) => return Err(self.no_program(heap, &listing, refusal)),
         };
-        Ok(Loaded {
-            bytes: listing.bytes,
-            header,
-        })
+        Ok(Listed { listing, header })
     }
 }

@@ -7,6 +7,7 @@ pub mod arguments;
 pub mod complaints;
 mod files;
 pub mod loaded;
+pub mod memory;
 pub mod queries;
 pub mod refused;
 pub mod summaries;

@@ -5,7 +5,8 @@ ghost use Rattle.report.specs.Queries.{Parted, Spotted, Decided, Answered};
 
 use crate::complaints::Complaint;
 use crate::files::File;
-use crate::loaded::{Loaded, MOST_MEMORY};
+use crate::loaded::Loaded;
+use crate::memory::MOST_MEMORY;
 use crate::refused::Word;
 use crate::verdicts::verdict;
 use places::{Known, know};
@@ -89,14 +90,15 @@ impl Part {
     }
 }
 
-impl Loaded {
+impl Loaded<'_> {
     // Its part of procedure `number`.
-    pub fn part(&self, number: usize) -> Part
-        requires { number < self.now.header.procs }
-        ensures { Parted self.now.bytes.items self.now.header number result }
+    pub fn part(self, number: usize) -> Part
+        requires { number < self.header.procs }
+        ensures { Parted self.entry.bytes.now self.entry.header number result }
     {
+        // Not by `nth`: `base` would want a second walk, and the `unreachable()` would stay.
         let mut base: usize = 0;
-        for (i, procedure) in Procedures::new(self.bytes.as_slice(), self.header).enumerate() {
+        for (i, procedure) in Procedures::new(self.bytes, self.header).enumerate() {
             if i == number {
                 return Part {
                     procedure,
@@ -109,9 +111,10 @@ impl Loaded {
         unreachable()
     }
 
-    // Its table; `file` is for the sentence of refusal.
-    pub fn decide(&self, heap: Global, file: &str) -> Result<Vec<u8>, Complaint>
-        ensures { Decided self.now.bytes.items result }
+    // Its table; `file` is for the sentence of refusal. `heap` and `file` are no fields: `memory` and `part` want neither,
+    // and a caller that lends bytes may have no file.
+    pub fn decide(self, heap: Global, file: &str) -> Result<Vec<u8>, Complaint>
+        ensures { Decided self.entry.bytes.now result }
     {
         let memory = self.memory();
         if memory > MOST_MEMORY {
@@ -121,18 +124,14 @@ impl Loaded {
         }
         let mut table = vec![in heap; 0u8; self.header.table]?;
         let mut work = vec![in heap; 0u32; self.header.work]?;
-        match know(
-            self.bytes.as_slice(),
-            table.as_mut_slice(),
-            work.as_mut_slice(),
-        ) {
+        match know(self.bytes, table.as_mut_slice(), work.as_mut_slice()) {
             Known::Told => Ok(table),
             Known::NoProgram | Known::OutFull | Known::Few => unreachable(),
         }
     }
 
     // That it has no such procedure.
-    fn no_procedure(&self, heap: Global, file: &str, procedure: usize) -> Complaint {
+    fn no_procedure(self, heap: Global, file: &str, procedure: usize) -> Complaint {
         let last = self.header.procs - 1;
         Complaint::new(format!(in heap;
             "{file} has procedures 0 to {last}, and no procedure {procedure}."
@@ -144,7 +143,8 @@ impl Loaded {
 pub fn answer(heap: Global, file: &str, text: &[u8], query: Query) -> Result<String, Complaint>
     ensures { Answered text.now query result }
 {
-    let program = File { name: file, text }.load(heap)?;
+    let listed = File { name: file, text }.load(heap)?;
+    let program = listed.program();
     if query.procedure >= program.header.procs {
         return Err(program.no_procedure(heap, file, query.procedure));
     }

@@ -49,16 +49,12 @@ impl fmt::Display for Overview {
     }
 }
 
-impl Loaded {
+impl Loaded<'_> {
     // Its procedures, in order.
-    fn procedures(&self, heap: Global) -> Result<Vec<Procedure>, Complaint>
-        ensures { Walked self.now.bytes.items self.now.header result }
+    fn procedures(self, heap: Global) -> Result<Vec<Procedure>, Complaint>
+        ensures { Walked self.entry.bytes.now self.entry.header result }
     {
-        let mut all = Vec::new(heap);
-        for procedure in Procedures::new(self.bytes.as_slice(), self.header) {
-            all.push(procedure)?;
-        }
-        Ok(all)
+        Ok(Procedures::new(self.bytes, self.header).collect(heap)?)
     }
 }
 
@@ -66,7 +62,8 @@ impl Loaded {
 pub fn summary(heap: Global, file: &str, text: &[u8]) -> Result<String, Complaint>
     ensures { Summarised text.now result }
 {
-    let program = File { name: file, text }.load(heap)?;
+    let listed = File { name: file, text }.load(heap)?;
+    let program = listed.program();
     let overview = Overview {
         header: program.header,
         procedures: program.procedures(heap)?,

@@ -2,7 +2,8 @@
 ghost use Rattle.report.specs.Waits.{Waits};
 
 use crate::complaints::Complaint;
-use crate::loaded::{Loaded, MOST_MEMORY};
+use crate::loaded::Loaded;
+use crate::memory::MOST_MEMORY;
 use places::{Deep, depth};
 use std::alloc::Global;
 use std::fmt;
@@ -30,17 +31,17 @@ impl fmt::Display for Waiting {
     }
 }
 
-impl Loaded {
+impl Loaded<'_> {
     // How many calls of it can wait at once.
-    pub fn calls_waiting(&self, heap: Global) -> Result<Waiting, Complaint>
-        ensures { Waits self.now.bytes.items result }
+    pub fn calls_waiting(self, heap: Global) -> Result<Waiting, Complaint>
+        ensures { Waits self.entry.bytes.now result }
     {
         let memory = self.memory();
         if memory > MOST_MEMORY {
             return Ok(Waiting::TooLarge(memory));
         }
         let mut work = vec![in heap; 0u32; self.header.work]?;
-        let Deep::AtMost(most) = depth(self.bytes.as_slice(), work.as_mut_slice()) else {
+        let Deep::AtMost(most) = depth(self.bytes, work.as_mut_slice()) else {
             return Ok(Waiting::Endless);
         };
         Ok(Waiting::AtMost(most))

@@ -8,12 +8,12 @@ use Rattle.answers.proofs.deciding.Decided.look.Goals as goal
 
 pub place_bytes-bytes-requires : goal.place_bytes-bytes-requires
 place_bytes-bytes-requires c = ∥∥₁_elim c.args.self.now.holds le_prop (λ held.
-    let l = located c.args.self.now held.1 c.part-part.ensures in
+    let l = located c.args.self.now held.1 c.program.result c.program.ensures.bytes c.program.ensures.header c.part-part.ensures in
     inside c.args.self.now held.1 l c.args.question.place (omega (arith, l.steps, c.from.ensures)) _ c.as_slice.ensures.value)
 
 pub returns : goal.returns
 returns c = λ g h.
-    let l = located c.args.self.now h c.part-part.ensures in
+    let l = located c.args.self.now h c.program.result c.program.ensures.bytes c.program.ensures.header c.part-part.ensures in
     let place : c.args.question.place ≤ length l.p.steps = omega (arith, l.steps, c.from.ensures) in
     let t = told c.args.self.now h l c.args.question.place place _ c.as_slice.ensures.value _ c.place_bytes-bytes.ensures (λ v. bit_and v c.args.question.pattern.mask ≡ c.args.question.pattern.want) in
     let m = c.in_ok-matching.ensures in

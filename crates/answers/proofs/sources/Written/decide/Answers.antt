@@ -14,4 +14,4 @@ decided_tree t s (Ok d) q h = h (meaning t) q
 decided_tree t s (Err c) q h = tt
 
 pub returns : goal.returns
-returns c = decided_tree c.args.self.now.source.tree _ c.new.result c.in_ok-bytes.ensures c.new.ensures
+returns c = decided_tree c.args.self.source.now.tree _ c.new.result c.in_ok-bytes.ensures c.new.ensures

@@ -1,4 +1,3 @@
-use Rattle.std.proofs.Common.{vec_items}
 use Rattle.report.proofs.Parts.{Passing}
 use Rattle.report.proofs.loaded.Loaded.part.Given as goal
 
@@ -6,4 +5,4 @@ abbrev pub invariant-loop-i : goal.invariant-loop-i
 invariant-loop-i l =
     (goal.iterator-loop-i).can_next l.i-iterator
     × (goal.iterator-loop-i).is_finite l.i-iterator
-    × Passing (vec_items l.self.bytes) l.self.header l.number l.base l.i-iterator.count l.i-iterator.iter
+    × Passing (l.self.bytes.now) l.self.header l.number l.base l.i-iterator.count l.i-iterator.iter
