@@ -7,7 +7,7 @@ use report::complaints::Complaint;
 use report::refused::Word;
 use std::alloc::Global;
 use std::fmt;
-use text::names::{Names, find};
+use text::names::{Names, find, find_variable};
 
 // Names, one behind another, with commas between. Not the slices of what is `Named`: it was tried, and that a chain of
 // two such slices ends was not proved (`loop-i-init`).
@@ -82,11 +82,8 @@ impl Scope<'_> {
     fn variable(self, heap: Global, word: &str) -> Result<usize, Complaint> {
         let shared = self.names.shared.as_slice();
         let own = self.procedure.own.as_slice();
-        if let Some(number) = find(shared, word.as_bytes()) {
+        if let Some(number) = find_variable(shared, own, word.as_bytes()) {
             return Ok(number);
-        }
-        if let Some(number) = find(own, word.as_bytes()) {
-            return Ok(shared.len().saturating_add(number));
         }
         let name = self.procedure.name.as_str();
         let shown = Word(word.as_bytes());
