@@ -10,7 +10,8 @@ use std::fmt;
 use text::names::{Names, find, find_variable};
 
 // Names, one behind another, with commas between. Not the slices of what is `Named`: it was tried, and that a chain of
-// two such slices ends was not proved (`loop-i-init`).
+// two such slices ends was not proved (`loop-i-init`). `Assignment` and `Report` join what they show by such a loop
+// too: one over any iterator would want clauses that it may go on and that it ends, and is no plainer.
 #[derive(Drop)]
 struct Listed<'n>(Vec<&'n str>);
 
