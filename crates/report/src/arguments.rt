@@ -15,12 +15,14 @@ pub fn usage(heap: Global, problem: &str) -> Complaint
     Complaint::new(format!(in heap; "{problem}; usage: reach FILE [PROCEDURE PLACE VALUES]."))
 }
 
-// The one file that is named after the program's own name, alone or before the three words of a query.
+// The one file that is named after the program's own name, alone or before the three words of a query. Each has an arm
+// of its own, so that it shows where one of them alone is wrong.
 pub fn file_argument(heap: Global, args: &[String]) -> Result<&str, Complaint>
     ensures { OneFile args.now result }
 {
     match args {
-        [_, file] | [_, file, _, _, _] => Ok(file.as_str()),
+        [_, file] => Ok(file.as_str()),
+        [_, file, _, _, _] => Ok(file.as_str()),
         [] | [_] => Err(usage(heap, "No file is named")),
         [_, _, _] | [_, _, _, _] => Err(usage(heap, "Too few arguments are given")),
         _ => Err(usage(heap, "Too many arguments are given")),

@@ -17,7 +17,7 @@ pub struct Loaded<'b> {
 
 impl Loaded<'_> {
     // The bytes of memory that deciding it needs.
-    pub fn memory(self) -> usize {
+    pub(crate) fn memory(self) -> usize {
         needed(self.header, self.bytes.len())
     }
 }

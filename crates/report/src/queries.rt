@@ -1,5 +1,5 @@
 // Whether a program can be at a place with some values, as `reach` is asked and as it answers. Relies on
-// `places` for the answer, on `program` for reading a program and on `syntax` for its byte form.
+// `places` for the answer, on `files` for the program that a text holds, and on `program` for its procedures.
 ghost use Rattle.std.specs.Prelude.{◌≡◌, ◌<◌, ◌≤◌, codes, ◌≢◌, slice_index};
 ghost use Rattle.report.specs.Queries.{Parted, Spotted, Decided, Answered};
 

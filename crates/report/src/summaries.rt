@@ -1,5 +1,4 @@
-// What `reach` tells of a program before it is decided. Relies on `program` for reading a program
-// and on `syntax` for its byte form.
+// What `reach` tells of a program before it is decided. Relies on `files` for the program that a text holds.
 ghost use Rattle.report.specs.Summaries.{Walked, Summarised};
 
 use crate::complaints::Complaint;
