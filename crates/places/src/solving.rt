@@ -29,7 +29,7 @@ fn write_part(sets: &[u32], base: usize, part: &mut [u8])
 }
 
 // Writes the table, procedure by procedure: the bytes of procedure f are those from `bases[f]` on. One
-// pass over all nodes would write the same: the parts stay since the edit must-fail/write_table.edit leaves out one.
+// pass over all nodes would write the same: the parts stay since must-fail/write_table.edit ends each where it begins.
 pub fn write_table(sets: &[u32], bases: &[u32], table: &mut [u8])
     requires parts { Parts bases.now (length bases.now) (length table.old) }
     requires long { 2 * length table.old ≤ length sets.now }

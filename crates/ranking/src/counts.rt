@@ -29,6 +29,7 @@ pub fn count_calls(system: System, sets: &[u32], counts: &mut [u32])
     ensures { Counted system.entry.graph.now system.entry.shared system.entry.nodes sets.now system.entry.nodes counts.new }
 {
     counts.fill(0);
+    // by number: a node is asked for by its number, and so is its set
     for n in 0..system.nodes {
         if let Node::Call { .. } = system.node(n) {
             count_call(system, sets, counts, n);

@@ -1,5 +1,5 @@
 // Level by level: the calls of each entry of a level are removed, and an entry that has no call left then is of the
-// next level. Loops go over numbers of values and of procedures, since a set is asked by number whether it has them.
+// next level. Loops go over numbers of values, procedures and call places, since sets and places are asked for by number.
 ghost use Rattle.std.specs.Prelude.{◌≡◌, ℕ, ◌+◌, ◌*◌, ◌<◌, ◌≤◌, true, false, length, ◌≢◌, slice_index, slice_set, ◌-◌, ◌^◌};
 ghost use Rattle.saturation.specs.Bits.{On};
 ghost use Rattle.saturation.specs.Marks.{Removed};

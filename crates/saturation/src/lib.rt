@@ -25,8 +25,8 @@ pub struct System<'g, 's> {
     pub sites: &'s [u32],
     // How many shared values there are.
     pub shared: usize,
-    // How many nodes there are: kept beside `graph`, since the engine's public interface names it, and `places` builds
-    // a system by it.
+    // How many nodes there are, though `graph` tells it: contracts and laws name it, and a quarter of a length in its
+    // place is no plainer.
     pub nodes: usize,
 }
 
