@@ -44,16 +44,17 @@ pub(crate) fn check_most(count: usize, most: usize, fault: Fault) -> Result<(), 
     if count <= most { Ok(()) } else { Err(fault) }
 }
 
+// Lent and not copied: a copy would stand on the stack at each level of an expression.
 impl Site {
-    fn check_variable(self, var: VarNo) -> Result<(), Fault>
-        ensures { MatchResult result (λ _. var.0 < self.scope.vars) (λ _. self.scope.vars ≤ var.0) }
+    fn check_variable(&self, var: VarNo) -> Result<(), Fault>
+        ensures { MatchResult result (λ _. var.0 < self.now.scope.vars) (λ _. self.now.scope.vars ≤ var.0) }
     {
         let at = self.at;
         check(var.0 < self.scope.vars, Fault::NoSuchVariable { at, var })
     }
 
-    fn check_place(self, place: PlaceNo) -> Result<(), Fault>
-        ensures { MatchResult result (λ _. place.0 ≤ self.scope.statements) (λ _. self.scope.statements < place.0) }
+    fn check_place(&self, place: PlaceNo) -> Result<(), Fault>
+        ensures { MatchResult result (λ _. place.0 ≤ self.now.scope.statements) (λ _. self.now.scope.statements < place.0) }
     {
         let at = self.at;
         check(
@@ -62,8 +63,8 @@ impl Site {
         )
     }
 
-    fn check_callee(self, callee: ProcNo) -> Result<(), Fault>
-        ensures { MatchResult result (λ _. callee.0 < self.scope.procedures) (λ _. self.scope.procedures ≤ callee.0) }
+    fn check_callee(&self, callee: ProcNo) -> Result<(), Fault>
+        ensures { MatchResult result (λ _. callee.0 < self.now.scope.procedures) (λ _. self.now.scope.procedures ≤ callee.0) }
     {
         let at = self.at;
         check(
@@ -72,8 +73,8 @@ impl Site {
         )
     }
 
-    fn check_expr(self, expr: &Expr) -> Result<(), Fault>
-        ensures { Tells (OkE self.scope.vars (meaning_e expr.now)) result }
+    fn check_expr(&self, expr: &Expr) -> Result<(), Fault>
+        ensures { Tells (OkE self.now.scope.vars (meaning_e expr.now)) result }
     {
         match expr {
             Expr::Yes | Expr::No => Ok(()),
@@ -90,9 +91,9 @@ impl Site {
     }
 
     // A statement that stands within its procedure.
-    fn check_statement(self, statement: &Statement) -> Result<(), Fault>
-        requires { self.at.place.0 < self.scope.statements }
-        ensures { Tells (InScope self.scope (meaning_i self.at.place.0 statement.now)) result }
+    fn check_statement(&self, statement: &Statement) -> Result<(), Fault>
+        requires { self.now.at.place.0 < self.now.scope.statements }
+        ensures { Tells (InScope self.now.scope (meaning_i self.now.at.place.0 statement.now)) result }
     {
         match statement {
             Statement::Skip | Statement::Return => Ok(()),
