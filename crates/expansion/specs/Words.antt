@@ -7,6 +7,7 @@ use Rattle.program.specs.Numbers.{Move, on, down, up, Loc, move_at}
 use Rattle.expansion.specs.declared.nodes.Action.{Action}
 use Rattle.expansion.specs.declared.nodes.Action.TheVariants.{Flow, Call, Return}
 use Rattle.expansion.specs.declared.nodes.Node.{Node}
+use Rattle.expansion.specs.declared.nodes.Words.{Words}
 
 -- the first word, which tells the kinds of moves apart, and the two numbers that go with it
 abbrev pub kind_of : Action → ℕ
@@ -24,17 +25,28 @@ second_of (Flow x y) = y
 second_of (Call c r) = r
 second_of (Return s) = s.until
 
--- the words of node n
-pub record Holds (w : List ℕ) (n : ℕ) (d : Node) : Type 0 where
-  pub kind : slice_index_or w (4 * n) 0 ≡ kind_of d.action
-  pub first : slice_index_or w (4 * n + 1) 0 ≡ first_of d.action
-  pub second : slice_index_or w (4 * n + 2) 0 ≡ second_of d.action
+-- the words of a node
+abbrev pub words_of : Node → Words
+words_of d = record { kind = kind_of d.action; first = first_of d.action; second = second_of d.action; base = d.base }
+
+-- the words of node n are these four
+pub record HoldsWords (w : List ℕ) (n : ℕ) (d : Words) : Type 0 where
+  pub kind : slice_index_or w (4 * n) 0 ≡ d.kind
+  pub first : slice_index_or w (4 * n + 1) 0 ≡ d.first
+  pub second : slice_index_or w (4 * n + 2) 0 ≡ d.second
   pub base : slice_index_or w (4 * n + 3) 0 ≡ d.base
 
 -- they were written, and those of nodes before n are as they were
-pub record Wrote (w w' : List ℕ) (n : ℕ) (d : Node) : Type 0 where
-  pub holds : Holds w' n d
+pub record WroteWords (w w' : List ℕ) (n : ℕ) (d : Words) : Type 0 where
+  pub holds : HoldsWords w' n d
   pub others : (i : ℕ) → i < 4 * n → slice_index w' i ≡ slice_index w i
+
+-- the same of the words of a node
+abbrev pub Holds : List ℕ → ℕ → Node → Type 0
+Holds w n d = HoldsWords w n (words_of d)
+
+abbrev pub Wrote : List ℕ → List ℕ → ℕ → Node → Type 0
+Wrote w w' n d = WroteWords w w' n (words_of d)
 
 -- what is written for a move of node n, with K shared values, in a procedure that begins at base and
 -- whose call places are those from lo to hi: on to one of two nodes; a call of the procedure that begins

@@ -1,7 +1,7 @@
 // The words of one node, in lent memory: four for each.
 ghost use Rattle.std.specs.Prelude.{◌≡◌, ℕ, ◌+◌, ◌*◌, ◌^◌, ◌<◌, length};
 ghost use Rattle.program.specs.Program.{Prog, Proc};
-ghost use Rattle.expansion.specs.Words.{Wrote};
+ghost use Rattle.expansion.specs.Words.{WroteWords, Wrote};
 ghost use Rattle.expansion.specs.Nodes.{PlaceIs, NodeIs};
 
 use crate::source::Source;
@@ -45,6 +45,16 @@ pub struct Node {
     pub base: u32,
 }
 
+// The four words that are written for a node: what kind of action it has, two numbers that go with it, and where its
+// procedure begins. Any numbers: what each kind is, only `write_node` says.
+#[derive(Clone, Copy)]
+pub struct Words {
+    pub kind: u32,
+    pub first: u32,
+    pub second: u32,
+    pub base: u32,
+}
+
 // A place of a procedure: the node where the procedure begins and the first node of the place, how many
 // nodes a place has, and how many shared values there are.
 #[derive(Clone, Copy)]
@@ -75,6 +85,17 @@ pub struct Body<'b> {
     pub callers: Callers,
 }
 
+// Writes these words, whatever they tell, as those of node `n`.
+pub fn write_words(words: &mut [u32], n: usize, node: Words)
+    requires { 4 * n + 3 < length words.old }
+    ensures { WroteWords words.old words.new n node }
+{
+    words[4 * n] = node.kind;
+    words[4 * n + 1] = node.first;
+    words[4 * n + 2] = node.second;
+    words[4 * n + 3] = node.base;
+}
+
 // Writes the words of node `n`: a number that tells its kind of action, two that go with it, and where its
 // procedure begins.
 pub fn write_node(words: &mut [u32], n: usize, node: Node)
@@ -86,10 +107,13 @@ pub fn write_node(words: &mut [u32], n: usize, node: Node)
         Action::Call { callee, waiting } => (1, callee, waiting),
         Action::Return(callers) => (2, callers.from, callers.until),
     };
-    words[4 * n] = kind;
-    words[4 * n + 1] = first;
-    words[4 * n + 2] = second;
-    words[4 * n + 3] = node.base;
+    let four = Words {
+        kind,
+        first,
+        second,
+        base: node.base,
+    };
+    write_words(words, n, four);
 }
 
 // What the node of `place` with these values does, where `step` stands, or none behind the last step. Here, below and in
