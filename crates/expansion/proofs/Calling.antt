@@ -18,7 +18,7 @@ use Rattle.expansion.specs.Nodes.{StepIs, PlaceAt}
 use Rattle.expansion.specs.Procs.{StepsFrom, StepsAt, ProcIs}
 use Rattle.expansion.specs.Listing.{calls_in, Adds, StepCalls, IsCall, Noted, ProcListed}
 use Rattle.expansion.proofs.Placed.{next_small}
-use Rattle.expansion.proofs.Stepping.{after, place_is, place_next, step_next, step_last, steps_next}
+use Rattle.expansion.proofs.Stepping.{after, place_is, place_next, passed_is, step_next, step_last, steps_next}
 use Rattle.expansion.proofs.Counting.{same_same, calls_step}
 use Rattle.expansion.proofs.Collecting.{adds_add, adds_same}
 
@@ -51,10 +51,10 @@ module _ {src : Source} {d : Procedure} {q : Place} {g : Prog} {f : ℕ} {p : Pr
   v = k.it g f p h
 
   next : (k.a < length p.steps) × StepIs src.bytes.now (Some r1.step) p k.a × StepsFrom src.bytes.now p (k.a + 1) u.at
-  next = step_next h k.walk v.from u r1 m
+  next = let n = step_next (passed_is h k.walk v.from) u r1 m in (n.0, n.1, n.2.from)
 
   pub within_small : r.first + r.width ≤ 67108864
-  within_small = next_small (place_is h (Some r1.step) r k.a v.place (omega (arith, next.0)) next.1)
+  within_small = next_small (place_is h.its (Some r1.step) r k.a v.place (omega (arith, next.0)) next.1)
 
   -- a call has its place in the count
   call_here : IsCall r1.step e → nth p.steps k.a ≡ some (call e)
@@ -74,7 +74,7 @@ module _ {src : Source} {d : Procedure} {q : Place} {g : Prog} {f : ℕ} {p : Pr
   within_next z o = elim o [
     | inl c ↦ record {
       from = next.2;
-      place = place_next h r k.a v.place;
+      place = place_next r k.a v.place;
       few = omega (arith, v.few, calls_step e k.a p.steps (call e) (call_here c.0), same_same e, c.2);
       adds = adds_add v.adds c.1 later
           (λ n i. record { a = k.a; early = omega arith; calls = call_here c.0; is = i ∙ v.place.first })
@@ -85,7 +85,7 @@ module _ {src : Source} {d : Procedure} {q : Place} {g : Prog} {f : ℕ} {p : Pr
     }
     | inr c ↦ record {
       from = next.2;
-      place = place_next h r k.a v.place;
+      place = place_next r k.a v.place;
       few = omega (arith, v.few, calls_step e k.a p.steps next.1.0 next.1.2, ap (λ (s : Sites). s.count) c.1);
       adds = rw c.1 (adds_same v.adds later
           (λ n i. elim (cases_eq i.a k.a) [
@@ -102,5 +102,5 @@ module _ {src : Source} {d : Procedure} {q : Place} {e : ℕ} {x y : Sites} {t :
   pub inside_last : GivesStep t None u → ProcListed src d q e x y
   inside_last m g f p h =
       let v = k.it g f p h in
-      let z : k.a ≡ length p.steps = step_last h k.walk v.from u m in
+      let z : k.a ≡ length p.steps = step_last (passed_is h k.walk v.from) u m in
       record { few = omega (arith, v.few); adds = subst (λ t. Adds (StepCalls g e f p t) x y) z v.adds }

@@ -38,7 +38,27 @@ pub record ProcIs (x : Source) (d : Procedure) (q : Place) (g : Prog) (f : ℕ) 
   pub procs : x.header.procs ≡ length g.procs
   pub place : PlaceAt q g f p 0
 
--- its nodes were written, behind all nodes before it
-abbrev pub ProcDone : Source → Procedure → Place → Callers → List ℕ → List ℕ → Type 0
-ProcDone x d q r w w' = (g : Prog) (f : ℕ) (p : Proc) → ProcIs x d q g f p → (starts : List ℕ) → slice_index starts f ≡ r.from → slice_index starts (f + 1) ≡ r.until →
+-- t has passed a steps of procedure f, which is p, and their scope is the procedure's
+pub record PassedIs (x : Source) (g : Prog) (f : ℕ) (p : Proc) (a : ℕ) (t : Steps) : Type 0 where
+  pub its : Numbered x g f p
+  pub walk : AtStep x.bytes.now t.scope (length p.steps) a t.at t
+  pub from : StepsFrom x.bytes.now p a t.at
+  pub vars : t.scope.vars ≡ g.shared + p.own
+  pub last : t.scope.last.0 ≡ length p.steps
+  pub procs : t.scope.procs ≡ length g.procs
+
+-- t is at the first step of procedure f, which is p and begins at place q; of the header of x nothing is asked
+pub record StepsIs (x : Source) (t : Steps) (q : Place) (g : Prog) (f : ℕ) (p : Proc) : Type 0 where
+  pub all : PassedIs x g f p 0 t
+  pub place : PlaceAt q g f p 0
+
+-- the nodes of procedure f, which is p, were written, behind all nodes before it
+abbrev pub ProcWritten : Prog → ℕ → Proc → Callers → List ℕ → List ℕ → Type 0
+ProcWritten g f p r w w' = (starts : List ℕ) → slice_index starts f ≡ r.from → slice_index starts (f + 1) ≡ r.until →
     Upto g starts w (before g.shared g.procs f) → Upto g starts w' (before g.shared g.procs f + size g.shared p)
+
+abbrev pub ProcDone : Source → Procedure → Place → Callers → List ℕ → List ℕ → Type 0
+ProcDone x d q r w w' = (g : Prog) (f : ℕ) (p : Proc) → ProcIs x d q g f p → ProcWritten g f p r w w'
+
+abbrev pub StepsDone : Source → Steps → Place → Callers → List ℕ → List ℕ → Type 0
+StepsDone x t q r w w' = (g : Prog) (f : ℕ) (p : Proc) → StepsIs x t q g f p → ProcWritten g f p r w w'
