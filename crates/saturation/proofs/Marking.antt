@@ -14,10 +14,10 @@ pub same_size : {m l u : Levels} → SameSize m l → SameSize l u → SameSize 
 same_size p q = record { nodes = q.nodes ∙ p.nodes; words = q.words ∙ p.words }
 
 pub more_none : (m : Levels) → More m m
-more_none m = record { stay = λ j o. o; summary = λ c o. o; size = record { nodes = refl; words = refl } }
+more_none m = record { stay = λ j o. o; words = λ j o. o; summary = λ c o. o; size = record { nodes = refl; words = refl } }
 
 pub more_both : {m l u : Levels} → More m l → More l u → More m u
-more_both p q = record { stay = λ j o. q.stay j (p.stay j o); summary = λ c o. q.summary c (p.summary c o); size = same_size p.size q.size }
+more_both p q = record { stay = λ j o. q.stay j (p.stay j o); words = λ j o. q.words j (p.words j o); summary = λ c o. q.summary c (p.summary c o); size = same_size p.size q.size }
 
 -- one mark
 module _ (n : ℕ) {t u : List ℕ} (g : Merged t u (n / 32) ((1 * 2 ^ (31 - n % 32)) % 2 ^ 32)) where
@@ -38,6 +38,7 @@ pub mark_marked : (n : ℕ) {a b c d : List ℕ} → Set a b n → Set c d (n / 
 mark_marked n {d = d} s t e f = record {
   kept = record {
     stay = s.kept;
+    words = t.kept;
     summary = λ c p j ne o. elim (s.only j o) [ inl q ↦ t.kept _ (p j ne q) | inr q ↦ subst (λ i. At d (i / 32)) (sym q) t.got ];
     size = record { nodes = e; words = f };
   };

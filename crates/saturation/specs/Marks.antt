@@ -38,9 +38,10 @@ pub record SameSize (m m' : Levels) : Type 0 where
   pub nodes : length m'.nodes ≡ length m.nodes
   pub words : length m'.words ≡ length m.words
 
--- no mark was taken away
+-- no mark was taken away, of a node or of a word
 pub record More (m m' : Levels) : Type 0 where
   pub stay : (j : ℕ) → In m j → In m' j
+  pub words : (j : ℕ) → At m.words j → At m'.words j
   pub summary : (c : ℕ) → SummarizedBut c m → SummarizedBut c m'
   pub size : SameSize m m'
 
