@@ -132,7 +132,8 @@ impl Ranker<'_, '_, '_, '_, '_> {
     // Whether some entry of procedure `f` is of this level.
     fn has_reached(&self, f: usize) -> bool
         requires { f < length self.now.procedures.bases.now }
-        ensures { result ≡ false → (x : ℕ) → x < 64 → On self.now.level.now f x → ⊥ }
+        ensures yes { result ≡ true → (x : ℕ) × (x < 64) × On self.now.level.now f x }
+        ensures no { result ≡ false → (x : ℕ) → x < 64 → On self.now.level.now f x → ⊥ }
     {
         !is_empty(self.level, f)
     }

@@ -19,6 +19,6 @@ loop-f-preserved c =
       )
       | else-has_reached w ↦ simp w.self-is (
         i.0,
-        below_more (ProcedureDone r.system r.procedures r.level.now c.loop-f.self.sets.now) c.loop-f.f i.1 (λ x hx q. absurd (w.if-has_reached.ensures refl x (omega (arith, (facts r.known).countable.fine.few)) (subst (λ l. On l c.loop-f.f x) (sym i.0.level) q))),
+        below_more (ProcedureDone r.system r.procedures r.level.now c.loop-f.self.sets.now) c.loop-f.f i.1 (λ x hx q. absurd (w.if-has_reached.ensures.no refl x (omega (arith, (facts r.known).countable.fine.few)) (subst (λ l. On l c.loop-f.f x) (sym i.0.level) q))),
       )
     ]
