@@ -8,7 +8,7 @@
 // Words are `u32`, and `as usize` makes a number of one: std has no `From<u32>` for `usize`.
 #![tactic(auto)]
 
-ghost use Rattle.std.specs.Prelude.{◌≡◌, ◌≢◌, ℕ, ◌+◌, ◌*◌, ◌^◌, ◌<◌, ◌≤◌, length, slice_index};
+ghost use Rattle.std.specs.Prelude.{◌≡◌, ◌≢◌, ℕ, ◌+◌, ◌*◌, ◌^◌, ◌<◌, ◌≤◌, length, slice_index, take};
 ghost use Rattle.saturation.specs.System.{Starts, TellsInside};
 ghost use Rattle.ranking.specs.Levels.{Known};
 ghost use Rattle.ranking.specs.Ranks.{Ranked};
@@ -26,6 +26,20 @@ mod levels;
 pub struct Procedures<'b, 's> {
     pub bases: &'b [u32],
     pub starts: &'s [u32],
+}
+
+impl<'b, 's> Procedures<'b, 's> {
+    // `count` procedures. What `bases` holds behind their words does not matter.
+    pub fn new(bases: &'b [u32], starts: &'s [u32], count: usize) -> Self
+        requires { count ≤ length bases.now }
+        ensures bases { result.bases.now ≡ take count bases.now }
+        ensures starts { result.starts.now ≡ starts.now }
+    {
+        Procedures {
+            bases: &bases[..count],
+            starts,
+        }
+    }
 }
 
 impl Procedures<'_, '_> {
