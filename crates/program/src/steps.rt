@@ -2,7 +2,7 @@
 ghost use Rattle.std.specs.Prelude.{◌≡◌, ◌+◌};
 ghost use Rattle.program.specs.Reading.{ReadStep};
 
-use crate::bytes::{read_kind, read_number};
+use crate::bytes::{read_byte, read_number};
 use crate::expressions::read_expression;
 use crate::kinds::StepKind;
 use crate::refusals::{Reason, Refusal};
@@ -67,12 +67,24 @@ impl Scope {
     }
 }
 
+// The bytes that steps begin with, by their kinds; matched as they stand, as those of expressions are.
+const SET: u8 = StepKind::Set as u8;
+
+const OPEN: u8 = StepKind::Open as u8;
+
+const GO: u8 = StepKind::Go as u8;
+
+const CALL: u8 = StepKind::Call as u8;
+
+const RETURN: u8 = StepKind::Return as u8;
+
 // The step at `at`.
 pub fn read_step(bytes: &[u8], at: usize, scope: Scope) -> Result<Found, Refusal>
     ensures { ReadStep scope bytes.now at result }
 {
-    match read_kind(bytes, at)? {
-        StepKind::Set => {
+    let kind = read_byte(bytes, at)?;
+    match kind {
+        SET => {
             let var = read_number(bytes, at + 1, scope.vars, Reason::NoSuchVariable)?;
             let end = read_expression(bytes, at + 2, scope.vars)?;
             Ok(Found {
@@ -83,14 +95,14 @@ pub fn read_step(bytes: &[u8], at: usize, scope: Scope) -> Result<Found, Refusal
                 end,
             })
         }
-        StepKind::Open => {
+        OPEN => {
             let open = read_number(bytes, at + 1, scope.vars, Reason::NoSuchVariable)?;
             Ok(Found {
                 step: Step::Open(VarNo(open)),
                 end: at + 2,
             })
         }
-        StepKind::Go => {
+        GO => {
             let places = usize::from(scope.last.0) + 1;
             let place = read_number(bytes, at + 1, places, Reason::NoSuchPlace)?;
             let past = read_expression(bytes, at + 2, scope.vars)?;
@@ -102,16 +114,20 @@ pub fn read_step(bytes: &[u8], at: usize, scope: Scope) -> Result<Found, Refusal
                 end: past,
             })
         }
-        StepKind::Call => {
+        CALL => {
             let callee = read_number(bytes, at + 1, scope.procs, Reason::NoSuchProcedure)?;
             Ok(Found {
                 step: Step::Call(ProcNo(callee)),
                 end: at + 2,
             })
         }
-        StepKind::Return => Ok(Found {
+        RETURN => Ok(Found {
             step: Step::Return,
             end: at + 1,
+        }),
+        _ => Err(Refusal {
+            at,
+            reason: Reason::UnknownStep,
         }),
     }
 }

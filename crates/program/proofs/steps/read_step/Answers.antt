@@ -1,20 +1,19 @@
-use Rattle.std.proofs.Common.{◌+◌, Ok, ap, ◌∙◌, subst}
+use Rattle.std.proofs.Common.{◌+◌, Ok, subst}
 use Rattle.program.specs.Reading.{ReadNumber}
-use Rattle.program.specs.Kinds.{byte_i}
 use Rattle.program.proofs.ReadingStep.{is_set, is_open, is_go, is_call, is_return}
 use Rattle.program.proofs.steps.read_step.Goals as goal
 
-pub returns-in_ok-end-in-Set : goal.returns-in_ok-end-in-Set
-returns-in_ok-end-in-Set c = is_set _ _ _ _ c.in_ok-read_kind.ensures.1 _ _ (c.in_ok-read_kind.ensures.2 ∙ ap byte_i c.in-Set.is) c.in_ok-var-in-Set.ensures c.in_ok-end-in-Set.ensures
+pub returns-in_ok-end-in-0 : goal.returns-in_ok-end-in-0
+returns-in_ok-end-in-0 c = is_set _ _ _ _ c.in_ok-kind.ensures _ _ c.in-0.is c.in_ok-var-in-0.ensures c.in_ok-end-in-0.ensures
 
-pub returns-in_ok-open-in-Open : goal.returns-in_ok-open-in-Open
-returns-in_ok-open-in-Open c = is_open _ _ _ _ c.in_ok-read_kind.ensures.1 _ (c.in_ok-read_kind.ensures.2 ∙ ap byte_i c.in-Open.is) c.in_ok-open-in-Open.ensures
+pub returns-in_ok-open-in-1 : goal.returns-in_ok-open-in-1
+returns-in_ok-open-in-1 c = is_open _ _ _ _ c.in_ok-kind.ensures _ c.in-1.is c.in_ok-open-in-1.ensures
 
-pub returns-in_ok-past-in-Go : goal.returns-in_ok-past-in-Go
-returns-in_ok-past-in-Go c = is_go _ _ _ _ c.in_ok-read_kind.ensures.1 _ _ (c.in_ok-read_kind.ensures.2 ∙ ap byte_i c.in-Go.is) (subst (λ z. ReadNumber (z + 1) c.args.bytes.now (c.args.at + 1) (Ok c.in_ok-place-in-Go.place)) c.from-places.ensures c.in_ok-place-in-Go.ensures) c.in_ok-past-in-Go.ensures
+pub returns-in_ok-past-in-2 : goal.returns-in_ok-past-in-2
+returns-in_ok-past-in-2 c = is_go _ _ _ _ c.in_ok-kind.ensures _ _ c.in-2.is (subst (λ z. ReadNumber (z + 1) c.args.bytes.now (c.args.at + 1) (Ok c.in_ok-place-in-2.place)) c.from-places.ensures c.in_ok-place-in-2.ensures) c.in_ok-past-in-2.ensures
 
-pub returns-in_ok-callee-in-Call : goal.returns-in_ok-callee-in-Call
-returns-in_ok-callee-in-Call c = is_call _ _ _ _ c.in_ok-read_kind.ensures.1 _ (c.in_ok-read_kind.ensures.2 ∙ ap byte_i c.in-Call.is) c.in_ok-callee-in-Call.ensures
+pub returns-in_ok-callee-in-3 : goal.returns-in_ok-callee-in-3
+returns-in_ok-callee-in-3 c = is_call _ _ _ _ c.in_ok-kind.ensures _ c.in-3.is c.in_ok-callee-in-3.ensures
 
-pub returns-in-Return : goal.returns-in-Return
-returns-in-Return c = is_return _ _ _ _ c.in_ok-read_kind.ensures.1 (c.in_ok-read_kind.ensures.2 ∙ ap byte_i c.in-Return.is)
+pub returns-in-4 : goal.returns-in-4
+returns-in-4 c = is_return _ _ _ _ c.in_ok-kind.ensures c.in-4.is
