@@ -1,52 +1,23 @@
 -- How a text is split into words. Assumes nothing.
-use Rattle.std.proofs.Common.{◌≡◌, ℕ, ◌+◌, ◌<◌, ◌==◌, Bool, true, false, not, cond, eqb, ◌&&◌, ◌||◌, List, [], ◌∷◌, ◌++◌, length, take, drop, slice_index, sym, refl, ap, subst, ◌∙◌, inl, inr, suc, arith}
-use Rattle.std.specs.List.{prefix_len, scan}
+use Rattle.std.proofs.Common.{◌≡◌, ℕ, ◌+◌, ◌<◌, ◌==◌, Bool, true, false, not, cond, eqb, List, [], ◌∷◌, ◌++◌, length, take, drop, slice_index, sym, refl, ap, ◌∙◌, inl, inr, suc, arith}
+use Rattle.std.specs.List.{prefix_len}
 use Rattle.std.proofs.lemmas.Bool.{cases_Bool, cond-true, eqb-true}
-use Rattle.std.proofs.lemmas.List.{append_assoc, append-nil, get_or-drop, length-drop}
+use Rattle.std.proofs.lemmas.List.{append_assoc, append-nil}
 use Rattle.std.proofs.lemmas.List.Folds.{length-prefix_len}
 use Rattle.syntax.specs.Decimal.{uncomment, gap, ends, words, finish}
-
--- whether a comment goes on behind b, and whether b comes before a word
-abbrev pub comment_on : Bool → ℕ → Bool
-comment_on c b = (c || b == 35) && not (b == 10)
-
-abbrev pub passed : Bool → ℕ → Bool
-passed c b = comment_on c b || gap b
-
--- how many bytes come before the first word
-abbrev pub gap_of : Bool → List ℕ → ℕ
-gap_of c s = prefix_len (λ p. p) (scan comment_on passed c s)
 
 one : (k : ℕ) → 1 + k ≡ suc k
 one k = omega arith
 
-pub gap_lists : (c : Bool) (s : List ℕ) → words [] (uncomment c s) ≡ words [] (uncomment false (drop (gap_of c s) s))
-gap_lists true [] = refl
-gap_lists false [] = refl
-gap_lists true (b ∷ s) = elim (cases_Bool (b == 10)) [
-  | inl t ↦ rw (eqb-true b 10 t, one) (gap_lists false s)
-  | inr f ↦ rw (f, one) (gap_lists true s)
-]
-gap_lists false (b ∷ s) = elim (cases_Bool (b == 35)) [
-  | inl t ↦ rw (eqb-true b 35 t, one) (gap_lists true s)
-  | inr f ↦ elim (cases_Bool (gap b)) [
-    | inl g ↦ rw (f, g, one) (gap_lists false s)
-    | inr g ↦ rw (f, g, f, g) refl
-  ]
-]
+-- a comment runs up to the line end
+abbrev pub comment_of : List ℕ → ℕ
+comment_of s = prefix_len (λ b. not (b == 10)) s
 
-pub gap_word : (c : Bool) (s : List ℕ) → gap_of c s < length s → ends (slice_index s (gap_of c s)) ≡ false
-gap_word c [] h = absurd (omega arith)
-gap_word true (b ∷ s) h = elim (cases_Bool (b == 10)) [
-  | inl t ↦ let k = rw (eqb-true b 10 t, one) at h in rw (eqb-true b 10 t, one) (gap_word false s (omega arith))
-  | inr f ↦ let k = rw (f, one) at h in rw (f, one) (gap_word true s (omega arith))
-]
-gap_word false (b ∷ s) h = elim (cases_Bool (b == 35)) [
-  | inl t ↦ let k = rw (eqb-true b 35 t, one) at h in rw (eqb-true b 35 t, one) (gap_word true s (omega arith))
-  | inr f ↦ elim (cases_Bool (gap b)) [
-    | inl g ↦ let k = rw (f, g, one) at h in rw (f, g, one) (gap_word false s (omega arith))
-    | inr g ↦ rw (f, g, f, g) refl
-  ]
+pub comment_past : (s : List ℕ) → uncomment true s ≡ uncomment false (drop (comment_of s) s)
+comment_past [] = refl
+comment_past (b ∷ s) = elim (cases_Bool (b == 10)) [
+  | inl t ↦ rw (eqb-true b 10 t) refl
+  | inr f ↦ rw (f, one) (comment_past s)
 ]
 
 -- a word ends at a gap
@@ -87,16 +58,12 @@ begins_none (b ∷ s) begins none =
     let k = rw (no, one) at none in
     absurd (omega arith)
 
--- behind a gap of k bytes: a word, or the end
-module _ (s : List ℕ) (k : ℕ) {rest word left : List ℕ} {n : ℕ} (gap : words [] (uncomment false s) ≡ words [] (uncomment false (drop k s))) (rest_is : rest ≡ drop k s) (long : n ≡ word_of rest) (word_is : word ≡ take n rest) (left_is : left ≡ drop n rest) where
+-- at the first word, or at the end
+module _ (s : List ℕ) {word left : List ℕ} {n : ℕ} (long : n ≡ word_of s) (word_is : word ≡ take n s) (left_is : left ≡ drop n s) where
   pub next_word : (length word ≡ 0 → ⊥) → words [] (uncomment false s) ≡ word ∷ words [] (uncomment false left)
   next_word some =
-      let here : words [] (uncomment false rest) ≡ finish word (words [] (uncomment false left)) = rw (word_is, left_is, long) (word_splits [] rest) in
-      gap ∙ ap (λ r. words [] (uncomment false r)) (sym rest_is) ∙ here ∙ some_word _ _ (omega arith)
+      let here : words [] (uncomment false s) ≡ finish word (words [] (uncomment false left)) = rw (word_is, left_is, long) (word_splits [] s) in
+      here ∙ some_word _ _ (omega arith)
 
-  pub no_word : (k < length s → ends (slice_index s k) ≡ false) → length word ≡ 0 → words [] (uncomment false s) ≡ []
-  no_word begins none =
-      let here : k + 0 ≡ k = omega arith in
-      let first : 0 < length rest → ends (slice_index rest 0) ≡ false = λ h. subst (λ b. ends b ≡ false) (sym (ap (λ r. slice_index r 0) rest_is ∙ get_or-drop k s 0 0 ∙ ap (slice_index s) here)) (begins (omega (arith, ap length rest_is, length-drop k s))) in
-      let short : word_of rest ≡ 0 = sym (length-prefix_len (λ b. not (ends b)) rest) ∙ rw (← long, ← word_is) none in
-      gap ∙ ap (λ r. words [] (uncomment false r)) (sym rest_is) ∙ begins_none rest first short
+  pub no_word : (0 < length s → ends (slice_index s 0) ≡ false) → length word ≡ 0 → words [] (uncomment false s) ≡ []
+  no_word begins none = begins_none s begins (sym (length-prefix_len (λ b. not (ends b)) s) ∙ rw (← long, ← word_is) none)

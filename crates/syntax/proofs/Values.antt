@@ -1,7 +1,6 @@
 -- The value of a word, digit by digit. Assumes nothing.
-use Rattle.std.proofs.Common.{◌≡◌, ℕ, ◌+◌, ◌-◌, ◌*◌, ◌<◌, ◌≤◌, min, List, [], ◌∷◌, length, fold, refl, ap, ◌∙◌, arith}
-use Rattle.std.specs.List.{AllWithin}
-use Rattle.std.proofs.ByRecursion.{All-from_get_or}
+use Rattle.std.proofs.Common.{◌≡◌, ℕ, ◌+◌, ◌-◌, ◌*◌, ◌<◌, ◌≤◌, min, List, [], ◌∷◌, fold, refl, ap, ◌∙◌, arith}
+use Rattle.std.specs.List.{AllByRecursion}
 use Rattle.syntax.specs.Decimal.{Number}
 
 abbrev pub Digit : ℕ → Type 0
@@ -23,9 +22,5 @@ capped_from v (b ∷ w) =
 pub too_large : (w : List ℕ) (v : ℕ) → v ≡ capped w → 256 ≤ v → (n : ℕ) → Number w n → ⊥
 too_large w v e l n is = let value = is.value in let fits = is.fits in omega (arith, capped_from 0 w)
 
-pub number_is : (w : List ℕ) (v : ℕ) → AllWithin Digit w 0 (length w) → v ≡ capped w → v < 256 → Number w v
-number_is w v d e l = record {
-  digits = All-from_get_or Digit w 0 (λ i h. d i 0 (omega arith) h);
-  value = omega (arith, capped_from 0 w);
-  fits = omega arith;
-}
+pub number_is : (w : List ℕ) (v : ℕ) → AllByRecursion Digit w → v ≡ capped w → v < 256 → Number w v
+number_is w v d e l = record { digits = d; value = omega (arith, capped_from 0 w); fits = omega arith }

@@ -55,10 +55,14 @@ fn with_digit(value: u32, digit: &u8) -> u32
 fn number(word: &[u8], place: Place) -> Result<u8, Fault>
     ensures { MatchResult result (λ n. Number word.now n) (λ _. (n : ℕ) → Number word.now n → ⊥) }
 {
-    if !word.iter().all(u8::is_ascii_digit) {
-        return Err(Fault::NoNumber(place));
+    // One pass, and no `all` before a `fold`: reading its words is most of the work on a long text.
+    let mut value = 0;
+    for digit in word {
+        if !digit.is_ascii_digit() {
+            return Err(Fault::NoNumber(place));
+        }
+        value = with_digit(value, digit);
     }
-    let value = word.iter().fold(0, with_digit);
     u8::try_from(value).map_err(|_| Fault::TooLarge(place))
 }
 

@@ -1,7 +1,7 @@
 // The words of a text: what stands between blanks, line ends and comments. Relies on std alone.
-ghost use Rattle.std.specs.Prelude.{◌≡◌, ◌+◌, ◌^◌, ◌<◌, ◌≤◌, false, [], not, length, drop, slice_index};
+ghost use Rattle.std.specs.Prelude.{◌≡◌, ◌+◌, ◌^◌, ◌<◌, ◌≤◌, true, false, not, length, drop, slice_index};
 ghost use Rattle.std.specs.List.{prefix_len};
-ghost use Rattle.syntax.specs.Decimal.{gap, ends, uncomment, words};
+ghost use Rattle.syntax.specs.Decimal.{gap, ends, uncomment};
 
 use crate::decimal::Place;
 
@@ -26,20 +26,12 @@ fn word_len(rest: &[u8]) -> usize
     rest.iter().take_while(|b| !ends_word(**b)).count()
 }
 
-// How many bytes of `rest` come before its first word. Within, `scan` carries whether the byte is part
-// of a comment: an enum of two cases is no plainer than the flag.
-fn gap_len(rest: &[u8]) -> usize
+// How many bytes of `rest`, which begins within a comment, are part of it.
+fn comment_len(rest: &[u8]) -> usize
     ensures within { result ≤ length rest.now }
-    ensures lists { words [] (uncomment false rest.now) ≡ words [] (uncomment false (drop result rest.now)) }
-    ensures word { result < length rest.now → ends (slice_index rest.now result) ≡ false }
+    ensures skips { uncomment true rest.now ≡ uncomment false (drop result rest.now) }
 {
-    rest.iter()
-        .scan(false, |comment, b| {
-            *comment = (*comment || *b == b'#') && *b != b'\n';
-            Some(*comment || is_gap(*b))
-        })
-        .take_while(|passed| *passed)
-        .count()
+    rest.iter().take_while(|b| **b != b'\n').count()
 }
 
 // The words that `rest` has, which stands in a text from byte `at` on, in line `line`.
@@ -53,6 +45,8 @@ pub struct Words<'a> {
 }
 
 impl<'a> Words<'a> {
+    ghost use Rattle.syntax.specs.Words.{words_left};
+
     pub fn new(text: &'a [u8]) -> Words<'a>
         ensures { result.rest.now ≡ text.now }
     {
@@ -62,27 +56,53 @@ impl<'a> Words<'a> {
             line: 1,
         }
     }
+
+    // Goes on to the first word, or to the end. One pass: a `scan` of what comes before, and a count of its lines, took
+    // three times as long.
+    fn skip_gap(&mut self)
+        ensures left { words_left self.new ≡ words_left self.old }
+        ensures begins { 0 < length self.new.rest.now → ends (slice_index self.new.rest.now 0) ≡ false }
+    {
+        while let Some((b, rest)) = self.rest.split_first() {
+            if *b == b'#' {
+                let comment = comment_len(rest);
+                *self = Words {
+                    rest: &rest[comment..],
+                    at: self.at + 1 + comment,
+                    line: self.line,
+                };
+            } else if is_gap(*b) {
+                *self = Words {
+                    rest,
+                    at: self.at + 1,
+                    line: self.line + usize::from(*b == b'\n'),
+                };
+            } else {
+                return;
+            }
+        }
+    }
 }
 
 impl<'a> Iterator for Words<'a> {
-    ghost use Rattle.std.specs.Iterator.{YieldsFirstBy, item_count};
-    ghost use Rattle.syntax.specs.Words.{words_left};
+    ghost use Rattle.std.specs.Iterator.{item_count};
+    ghost use Rattle.syntax.specs.Words.{words_left, GivesWord};
 
     type Item = (Place, &'a [u8]);
 
-    ghost next_gives = { YieldsFirstBy (λ w. w.1.now) words_left };
+    ghost next_gives = { GivesWord };
 
     ghost remaining = { item_count words_left };
 
     fn next(&mut self) -> Option<(Place, &'a [u8])> {
-        let (gap, rest) = self.rest.split_at(gap_len(self.rest));
-        let (word, rest) = rest.split_at(word_len(rest));
+        self.skip_gap();
+        let (word, rest) = self.rest.split_at(word_len(self.rest));
         if word.is_empty() {
             return None;
         }
-        let start = self.at + gap.len();
+        let line = self.line;
+        let start = self.at;
         let end = start + word.len();
-        let line = self.line + gap.iter().filter(|b| **b == b'\n').count();
         *self = Words {
             rest,
             at: end,
