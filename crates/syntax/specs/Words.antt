@@ -13,5 +13,5 @@ words_left w = words [] (uncomment false w.rest.now)
 abbrev pub GivesWord : Words → Option (Place × Bor (List ℕ)) → Words → Type 0
 GivesWord w (Some p) v =
     (words_left w ≡ p.1.now ∷ words_left v)
-    × (p.0.start + length p.1.now ≡ p.0.end) × (v.at ≡ p.0.end)
+    × (p.0.start + length p.1.now ≡ p.0.end) × (p.0.end + length v.rest.now ≡ v.whole)
 GivesWord w None v = (words_left w ≡ []) × (words_left v ≡ [])

@@ -34,14 +34,15 @@ fn comment_len(rest: &[u8]) -> usize
     rest.iter().take_while(|b| **b != b'\n').count()
 }
 
-// The words that `rest` has, which stands in a text from byte `at` on, in line `line`.
+// The words that `rest` has, which stands at the end of a text of `whole` bytes, from line `line` on.
 #[derive(Clone, Copy)]
 pub struct Words<'a> {
     rest: &'a [u8],
-    at: usize,
+    whole: usize,
     line: usize,
-    ghost few: { line ≤ at + 1 },
-    ghost fits: { at + length rest.now < 2 ^ 63 },
+    ghost few: { line + length rest.now ≤ whole + 1 },
+    ghost within: { length rest.now ≤ whole },
+    ghost fits: { whole < 2 ^ 63 },
 }
 
 impl<'a> Words<'a> {
@@ -52,31 +53,23 @@ impl<'a> Words<'a> {
     {
         Words {
             rest: text,
-            at: 0,
+            whole: text.len(),
             line: 1,
         }
     }
 
-    // Goes on to the first word, or to the end. One pass: a `scan` of what comes before, and a count of its lines, took
-    // three times as long.
+    // Goes on to the first word, or to the end. One pass, which counts lines as it goes: a `scan` of what comes before, and
+    // then a count, took twice as long.
     fn skip_gap(&mut self)
         ensures left { words_left self.new ≡ words_left self.old }
         ensures begins { 0 < length self.new.rest.now → ends (slice_index self.new.rest.now 0) ≡ false }
     {
         while let Some((b, rest)) = self.rest.split_first() {
             if *b == b'#' {
-                let comment = comment_len(rest);
-                *self = Words {
-                    rest: &rest[comment..],
-                    at: self.at + 1 + comment,
-                    line: self.line,
-                };
+                self.rest = &rest[comment_len(rest)..];
             } else if is_gap(*b) {
-                *self = Words {
-                    rest,
-                    at: self.at + 1,
-                    line: self.line + usize::from(*b == b'\n'),
-                };
+                self.rest = rest;
+                self.line += usize::from(*b == b'\n');
             } else {
                 return;
             }
@@ -101,13 +94,9 @@ impl<'a> Iterator for Words<'a> {
             return None;
         }
         let line = self.line;
-        let start = self.at;
+        let start = self.whole - self.rest.len();
         let end = start + word.len();
-        *self = Words {
-            rest,
-            at: end,
-            line,
-        };
+        self.rest = rest;
         Some((Place { line, start, end }, word))
     }
 }
