@@ -49,7 +49,8 @@ impl<'a> Words<'a> {
     ghost use Rattle.syntax.specs.Words.{words_left};
 
     pub fn new(text: &'a [u8]) -> Words<'a>
-        ensures { result.rest.now ≡ text.now }
+        ensures rest { result.rest.now ≡ text.now }
+        ensures whole { result.whole ≡ length text.now }
     {
         Words {
             rest: text,
@@ -59,9 +60,10 @@ impl<'a> Words<'a> {
     }
 
     // Goes on to the first word, or to the end. One pass, which counts lines as it goes: a `scan` of what comes before, and
-    // then a count, took twice as long.
+    // then a count, would be two.
     fn skip_gap(&mut self)
         ensures left { words_left self.new ≡ words_left self.old }
+        ensures whole { self.new.whole ≡ self.old.whole }
         ensures begins { 0 < length self.new.rest.now → ends (slice_index self.new.rest.now 0) ≡ false }
     {
         while let Some((b, rest)) = self.rest.split_first() {

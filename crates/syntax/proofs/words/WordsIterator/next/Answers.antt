@@ -17,7 +17,7 @@ returns-then-is_empty-clause-steps c =
 pub returns-clause-steps : goal.returns-clause-steps
 returns-clause-steps c =
     let some = eqb-false _ _ (sym c.is_empty.ensures ∙ c.if-is_empty.false) in
-    (sym c.skip_gap.ensures.left ∙ next_word c.skip_gap.new.self.rest.now c.word_len.ensures c.split_at.ensures.front c.split_at.ensures.back some, refl, omega (arith, c.split_at.ensures.front_len, c.split_at.ensures.back_len, c.skip_gap.new.self.within))
+    (sym c.skip_gap.ensures.left ∙ next_word c.skip_gap.new.self.rest.now c.word_len.ensures c.split_at.ensures.front c.split_at.ensures.back some, refl, omega (arith, c.skip_gap.ensures.whole, c.split_at.ensures.front_len, c.split_at.ensures.back_len, c.skip_gap.new.self.within), c.skip_gap.ensures.whole)
 
 pub returns-clause-goes : goal.returns-clause-goes
 returns-clause-goes c =
