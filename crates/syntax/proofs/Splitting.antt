@@ -3,7 +3,6 @@ use Rattle.std.proofs.Common.{◌≡◌, ℕ, ◌+◌, ◌<◌, ◌==◌, Bool, 
 use Rattle.std.specs.List.{prefix_len}
 use Rattle.std.proofs.lemmas.Bool.{cases_Bool, cond-true, eqb-true}
 use Rattle.std.proofs.lemmas.List.{append_assoc, append-nil}
-use Rattle.std.proofs.lemmas.List.Folds.{length-prefix_len}
 use Rattle.syntax.specs.Decimal.{uncomment, gap, ends, words, finish}
 
 one : (k : ℕ) → 1 + k ≡ suc k
@@ -51,19 +50,13 @@ pub some_word : (w : List ℕ) (ws : List (List ℕ)) → 0 < length w → finis
 some_word [] ws h = absurd (omega arith)
 some_word (b ∷ w) ws h = refl
 
-begins_none : (s : List ℕ) → (0 < length s → ends (slice_index s 0) ≡ false) → word_of s ≡ 0 → words [] (uncomment false s) ≡ []
-begins_none [] begins none = refl
-begins_none (b ∷ s) begins none =
-    let no = begins (omega arith) in
-    let k = rw (no, one) at none in
-    absurd (omega arith)
+-- where a word begins, its first byte is part of it
+pub word_begins : (s : List ℕ) {b n : ℕ} {inner : List ℕ} → s ≡ b ∷ inner → (0 < length s → ends (slice_index s 0) ≡ false) → n ≡ word_of inner → 1 + n ≡ word_of s
+word_begins s {b} {n} {inner} is begins long =
+    let at_first : 0 < length (b ∷ inner) → ends b ≡ false = rw is at begins in
+    rw (is, at_first (omega arith), long) refl
 
--- at the first word, or at the end
-module _ (s : List ℕ) {word left : List ℕ} {n : ℕ} (long : n ≡ word_of s) (word_is : word ≡ take n s) (left_is : left ≡ drop n s) where
-  pub next_word : (length word ≡ 0 → ⊥) → words [] (uncomment false s) ≡ word ∷ words [] (uncomment false left)
-  next_word some =
-      let here : words [] (uncomment false s) ≡ finish word (words [] (uncomment false left)) = rw (word_is, left_is, long) (word_splits [] s) in
-      here ∙ some_word _ _ (omega arith)
-
-  pub no_word : (0 < length s → ends (slice_index s 0) ≡ false) → length word ≡ 0 → words [] (uncomment false s) ≡ []
-  no_word begins none = begins_none s begins (sym (length-prefix_len (λ b. not (ends b)) s) ∙ rw (← long, ← word_is) none)
+pub next_word : (s : List ℕ) {word left : List ℕ} {n : ℕ} → n ≡ word_of s → word ≡ take n s → left ≡ drop n s → 0 < length word → words [] (uncomment false s) ≡ word ∷ words [] (uncomment false left)
+next_word s {word} {left} long word_is left_is some =
+    let here : words [] (uncomment false s) ≡ finish word (words [] (uncomment false left)) = rw (word_is, left_is, long) (word_splits [] s) in
+    here ∙ some_word _ _ some

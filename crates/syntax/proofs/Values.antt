@@ -9,15 +9,15 @@ Digit b = (48 ≤ b) × (b ≤ 57)
 abbrev pub val : List ℕ → ℕ
 val w = fold (λ v b. 10 * v + (b - 48)) 0 w
 
--- the value where it stops at the greatest number of 32 bits
+-- the value where it stops at the first number that is no byte
 abbrev pub capped : List ℕ → ℕ
-capped w = fold (λ v b. min (10 * v + (b - 48)) 4294967295) 0 w
+capped w = fold (λ v b. min (10 * v + (b - 48)) 256) 0 w
 
-capped_from : (v : ℕ) (w : List ℕ) → fold (λ v b. min (10 * v + (b - 48)) 4294967295) (min v 4294967295) w ≡ min (fold (λ v b. 10 * v + (b - 48)) v w) 4294967295
+capped_from : (v : ℕ) (w : List ℕ) → fold (λ v b. min (10 * v + (b - 48)) 256) (min v 256) w ≡ min (fold (λ v b. 10 * v + (b - 48)) v w) 256
 capped_from v [] = refl
 capped_from v (b ∷ w) =
-    let more : min (10 * min v 4294967295 + (b - 48)) 4294967295 ≡ min (10 * v + (b - 48)) 4294967295 = omega arith in
-    ap (λ a. fold (λ v b. min (10 * v + (b - 48)) 4294967295) a w) more ∙ capped_from (10 * v + (b - 48)) w
+    let more : min (10 * min v 256 + (b - 48)) 256 ≡ min (10 * v + (b - 48)) 256 = omega arith in
+    ap (λ a. fold (λ v b. min (10 * v + (b - 48)) 256) a w) more ∙ capped_from (10 * v + (b - 48)) w
 
 pub too_large : (w : List ℕ) (v : ℕ) → v ≡ capped w → 256 ≤ v → (n : ℕ) → Number w n → ⊥
 too_large w v e l n is = let value = is.value in let fits = is.fits in omega (arith, capped_from 0 w)

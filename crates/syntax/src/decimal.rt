@@ -1,7 +1,7 @@
 // The byte form of a program as text: decimal numbers from 0 to 255, with blanks and line ends
 // between them, where `#` begins a comment that runs up to the end of its line. The text need not be
 // UTF-8. Relies on std alone.
-ghost use Rattle.std.specs.Prelude.{◌≡◌, ℕ, ◌+◌, ◌-◌, ◌*◌, ◌^◌, min, MatchResult};
+ghost use Rattle.std.specs.Prelude.{◌≡◌, ℕ, MatchResult};
 ghost use Rattle.syntax.specs.Decimal.{Number, ListsWritten};
 ghost use Rattle.syntax.specs.Answers.{Answers};
 ghost use Rattle.syntax.specs.declared.decimal.Fault.TheVariants.{Memory};
@@ -43,25 +43,18 @@ impl<T: Drop> From<AllocFailed<T>> for Fault {
     }
 }
 
-// The value of a word with one more digit. Above a byte it stays there, however many digits follow.
-fn with_digit(value: u32, digit: &u8) -> u32
-    ensures { result ≡ min (10 * value + (digit.now - 48)) (2 ^ 32 - 1) }
-{
-    let digit = u32::from(digit.saturating_sub(b'0'));
-    value.saturating_mul(10).saturating_add(digit)
-}
-
 // The number that the word at `place` is.
 fn number(word: &[u8], place: Place) -> Result<u8, Fault>
     ensures { MatchResult result (λ n. Number word.now n) (λ _. (n : ℕ) → Number word.now n → ⊥) }
 {
-    // One pass, and no `all` before a `fold`: reading its words is most of the work on a long text.
-    let mut value = 0;
+    // One pass, and no `all` before a `fold`: reading its words is most of the work on a long text. A value above 255 stays
+    // above it, however many digits follow: 256 stands for all of them.
+    let mut value: u32 = 0;
     for digit in word {
         if !digit.is_ascii_digit() {
             return Err(Fault::NoNumber(place));
         }
-        value = with_digit(value, digit);
+        value = (value * 10 + u32::from(*digit - b'0')).min(256);
     }
     u8::try_from(value).map_err(|_| Fault::TooLarge(place))
 }

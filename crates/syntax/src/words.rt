@@ -19,7 +19,7 @@ fn ends_word(b: u8) -> bool
     b == b'#' || is_gap(b)
 }
 
-// How many bytes of `rest` are its first word.
+// How many bytes of `rest`, which begins within a word or behind one, are part of it.
 fn word_len(rest: &[u8]) -> usize
     ensures { result ≡ prefix_len (λ b. not (ends b)) rest.now }
 {
@@ -91,10 +91,9 @@ impl<'a> Iterator for Words<'a> {
 
     fn next(&mut self) -> Option<(Place, &'a [u8])> {
         self.skip_gap();
-        let (word, rest) = self.rest.split_at(word_len(self.rest));
-        if word.is_empty() {
-            return None;
-        }
+        // The first byte is part of the word, and isn't asked a second time.
+        let (_, inner) = self.rest.split_first()?;
+        let (word, rest) = self.rest.split_at(1 + word_len(inner));
         let line = self.line;
         let start = self.whole - self.rest.len();
         let end = start + word.len();
