@@ -56,6 +56,7 @@ word_begins s {b} {n} {inner} is begins long =
     let at_first : 0 < length (b ∷ inner) → ends b ≡ false = rw is at begins in
     rw (is, at_first (omega arith), long) refl
 
+-- the first word comes before the words of what it leaves
 pub next_word : (s : List ℕ) {word left : List ℕ} {n : ℕ} → n ≡ word_of s → word ≡ take n s → left ≡ drop n s → 0 < length word → words [] (uncomment false s) ≡ word ∷ words [] (uncomment false left)
 next_word s {word} {left} long word_is left_is some =
     let here : words [] (uncomment false s) ≡ finish word (words [] (uncomment false left)) = rw (word_is, left_is, long) (word_splits [] s) in
